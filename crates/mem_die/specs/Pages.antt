@@ -1,0 +1,20 @@
+-- A row of bytes as pages of one length.
+use Rattle.std.specs.Prelude.{◌≡◌, ◌≢◌, ℕ, ◌%◌, List, length, map, ◌==◌, if◌then◌else◌}
+use Rattle.std.specs.Int.{bit_at}
+use Rattle.std.specs.List.{range_with_len}
+use Rattle.std.specs.Fork.{slice_chunk}
+use Rattle.cell_die.specs.Cells.{charge_at}
+
+abbrev pub pages_of : ℕ → ℕ → List ℕ → List (List ℕ)
+pages_of size count bytes = map (slice_chunk bytes size) (range_with_len 0 count)
+
+-- the bytes are as before but for this page, which has this content now
+pub record ChangesPage (size page : ℕ) (old new content : List ℕ) : Type 0 where
+  pub same_length : length new ≡ length old
+  pub here : slice_chunk new size page ≡ content
+  pub others : (other : ℕ) → other ≢ page → slice_chunk new size other ≡ slice_chunk old size other
+
+-- the page is old, with the cells of target where the mask has the bit of the cell's number, modulo 64
+pub record Blended (mask : ℕ) (old target new : List ℕ) : Type 0 where
+  pub same_length : length new ≡ length old
+  pub cells : (cell : ℕ) → charge_at new cell ≡ (if bit_at mask (cell % 64) == 1 then charge_at target cell else charge_at old cell)

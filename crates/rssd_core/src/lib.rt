@@ -1,0 +1,7 @@
+//! The device: numbered sectors on the pages of a die. Knows pages, and nothing of scripts.
+#![tactic(auto)]
+
+mod ftl;
+mod page;
+
+pub use ftl::{Ftl, FtlError, MountError, Placed, Plan, Refused, mount};
