@@ -1,9 +1,9 @@
 -- Pieces of bytes, taken from a row and put into it.
-use Rattle.std.proofs.Common.{◌≡◌, ◌≢◌, ℕ, zero, suc, ◌+◌, ◌-◌, ◌*◌, ◌/◌, ◌%◌, ◌^◌, ◌<◌, ◌≤◌, ◌⊎◌, min, max, List, length, slice_index, slice_set, bit_and, bit_or, bit_xor, sym, ◌∙◌, ap, ap₂, subst, refl, inl, inr, arith, get_or-set_same, get_or-set_other, add-zero}
+use Rattle.std.proofs.Common.{◌≡◌, ◌≢◌, ℕ, zero, suc, ◌+◌, ◌-◌, ◌*◌, ◌/◌, ◌%◌, ◌^◌, ◌<◌, ◌≤◌, ◌⊎◌, min, List, length, slice_index, slice_set, bit_and, bit_or, bit_xor, sym, ◌∙◌, ap, ap₂, subst, refl, inl, inr, arith, get_or-set_same, get_or-set_other, add-zero}
 use Rattle.std.specs.Int.{bit_at}
 use Rattle.std.proofs.lemmas.Bool.{cases_eq, cases_lt}
 use Rattle.std.proofs.lemmas.Nat.{pow-add, shl-shr, shr-shr, and_mask, or_comm, or_shifted, mod_below, pow_pos, shl_below, shl_whole, mul-add-lt, pow_below}
-use Rattle.std.proofs.lemmas.Nat.Bits.{bit_at_and, bit_at_xor, bit_at-lt, bit_at_above, bit_at_ones, bit_at_ones_above, bit_at_cat_low, bit_at_cat_high, bit_at-zero, ones_shr}
+use Rattle.std.proofs.lemmas.Nat.Bits.{bit_at_and, bit_at_xor, bit_at-lt, bit_at_above, bit_at_ones, bit_at_cat_low, bit_at_cat_high, bit_at-zero, ones_shr}
 use Rattle.cell_bits.specs.Cells.{charge_at}
 
 pub ones_is : (k : ℕ) → 1 ≤ k → k ≤ 64 → 18446744073709551615 / 2 ^ (64 - k) ≡ 2 ^ k - 1

@@ -1,12 +1,12 @@
 -- Loops over whole rows.
-use Rattle.std.proofs.Common.{◌≡◌, ℕ, zero, suc, ◌+◌, ◌*◌, ◌/◌, ◌%◌, ◌^◌, ◌<◌, ◌≤◌, ◌↔◌, ◌⊎◌, Bool, true, false, ◌&&◌, ◌==◌, List, length, slice_index, bit_or, bit_xor, max, sym, ◌∙◌, ap, subst, refl, inl, inr, arith, eq-eqb}
+use Rattle.std.proofs.Common.{◌≡◌, ℕ, zero, suc, ◌+◌, ◌/◌, ◌%◌, ◌<◌, ◌≤◌, ◌↔◌, ◌⊎◌, ◌&&◌, ◌==◌, List, length, slice_index, bit_or, bit_xor, max, sym, ◌∙◌, ap, subst, refl, inl, inr, arith}
 use Rattle.std.specs.Int.{bit_at}
 use Rattle.std.specs.Int.Bits.{or_zero_l, xor_self}
-use Rattle.std.proofs.lemmas.Bool.{cases_lt, eqb-true, ne_eqb, true≢false}
+use Rattle.std.proofs.lemmas.Bool.{cases_lt, ne_eqb}
 use Rattle.std.proofs.lemmas.List.{get_or_past}
 use Rattle.std.proofs.lemmas.Nat.{le_or_l, le_or_r, or_lt}
 use Rattle.std.proofs.lemmas.Nat.Bits.{bit_at_or, bit_at_xor, bit_at-lt, bit_at-zero, same_from_bits, same_from_bits_below}
-use Rattle.cell_bits.specs.Cells.{charge_at, is_charged, IsAbove, AreBytes}
+use Rattle.cell_bits.specs.Cells.{charge_at, IsAbove, AreBytes}
 use Rattle.cell_bits.proofs.Above.{above_bits}
 
 -- the old byte has no cell that the new one lacks
@@ -22,6 +22,7 @@ kept_more new old lost at before = (there, back)
   where
     change : ℕ
     change = bit_xor (bit_or (slice_index old at) (slice_index new at)) (slice_index new at)
+
     there : bit_or lost (bit_xor (bit_or (slice_index old at) (slice_index new at)) (slice_index new at)) ≡ 0 → (k : ℕ) → k < at + 1 → IsKept new old k
     there e k h = elim (cases_lt k at) [
       | inl l ↦ before.0 (omega (arith, le_or_l lost (bit_xor (bit_or (slice_index old at) (slice_index new at)) (slice_index new at)))) k l
@@ -29,6 +30,7 @@ kept_more new old lost at before = (there, back)
           let same : at ≡ k = omega arith in
           subst (IsKept new old) same (xor_zero _ _ (omega (arith, le_or_r lost (bit_xor (bit_or (slice_index old at) (slice_index new at)) (slice_index new at)))))
     ]
+
     back : ((k : ℕ) → k < at + 1 → IsKept new old k) → bit_or lost (bit_xor (bit_or (slice_index old at) (slice_index new at)) (slice_index new at)) ≡ 0
     back h =
         let none : lost ≡ 0 = before.1 (λ k l. h k (omega arith)) in
@@ -43,7 +45,7 @@ above_from_kept new old len h = record { same_length = len; charged = λ c. at c
     at : (c : ℕ) → (c / 8 < length old) ⊎ (length old ≤ c / 8) → charge_at old c ≤ charge_at new c
     at c (inl l) =
         let both : bit_at (slice_index new (c / 8)) (c % 8) ≡ max (bit_at (slice_index old (c / 8)) (c % 8)) (bit_at (slice_index new (c / 8)) (c % 8)) =
-            ap (λ x. bit_at x (c % 8)) (sym (h (c / 8) l)) ∙ bit_at_or _ _ (c % 8) in
+        ap (λ x. bit_at x (c % 8)) (sym (h (c / 8) l)) ∙ bit_at_or _ _ (c % 8) in
         omega arith
     at c (inr m) =
         let none : charge_at old c ≡ 0 = ap (λ x. bit_at x (c % 8)) (get_or_past old (c / 8) 0 m) ∙ bit_at-zero (c % 8) in

@@ -1,9 +1,12 @@
 //! Cells of a row, one at a time or up to 64 side by side.
-//! Cells side by side are taken and put by the pieces that they fill of each byte.
+//! Cells side by side go by whole words where they are 64 that begin with a byte, and else by the
+//! pieces that they fill of each byte. No other byte is touched.
 
 ghost use Rattle.std.specs.Prelude.{◌≡◌, ℕ, ◌+◌, ◌*◌, ◌≤◌, ◌<◌, ◌^◌, ◌-◌, ◌⊎◌, length};
 ghost use Rattle.std.specs.Int.{bit_at};
 ghost use Rattle.cell_bits.specs.Cells.{charge_at, is_charged, with_charged};
+
+use crate::words::{put_word, take_word};
 
 /// Whether cell `i` of the row is charged.
 pub fn bit(row: &[u8], i: u32) -> bool
@@ -60,6 +63,9 @@ pub fn take_bits(row: &[u8], at: u32, count: u32) -> u64
     ensures bits { (i : ℕ) → i < count → bit_at result i ≡ charge_at row.now (at + i) }
     ensures narrow { result < 2 ^ count }
 {
+    if at % 8 == 0 && count == 64 {
+        return take_word(row, (at / 8) as usize);
+    }
     let mut bits: u64 = 0;
     let mut done: u32 = 0;
     while done < count {
@@ -83,6 +89,9 @@ pub fn put_bits(row: &mut [u8], at: u32, count: u32, bits: u64)
     ensures below { (c : ℕ) → c < at → charge_at row.new c ≡ charge_at row.old c }
     ensures above { (c : ℕ) → at + count ≤ c → charge_at row.new c ≡ charge_at row.old c }
 {
+    if at % 8 == 0 && count == 64 {
+        return put_word(row, (at / 8) as usize, bits);
+    }
     let mut done: u32 = 0;
     while done < count {
         let cell = at as usize + done as usize;

@@ -4,6 +4,10 @@
 
 mod bits;
 mod rows;
+mod words;
 
 pub use bits::{bit, put_bits, set_bit, take_bits};
 pub use rows::{charged, is_above, is_blank};
+
+#[cfg(test)]
+mod tests;

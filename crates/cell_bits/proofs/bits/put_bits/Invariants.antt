@@ -1,3 +1,4 @@
+-- The cells put so far are the bits, and all others are those of the row as it came.
 use Rattle.std.proofs.Common.{◌≡◌, ℕ, ◌+◌, ◌-◌, ◌<◌, ◌≤◌}
 use Rattle.std.specs.Int.{bit_at}
 use Rattle.cell_bits.specs.Cells.{charge_at}

@@ -1,3 +1,4 @@
+-- The bits taken so far are the cells, and no higher bit is set.
 use Rattle.std.proofs.Common.{◌≡◌, ℕ, ◌+◌, ◌-◌, ◌<◌, ◌≤◌, ◌^◌}
 use Rattle.std.specs.Int.{bit_at}
 use Rattle.cell_bits.specs.Cells.{charge_at}
