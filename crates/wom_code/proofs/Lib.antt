@@ -1,0 +1,3 @@
+pub mod OneWord
+pub mod PackedLemmas
+pub mod PlainLemmas
