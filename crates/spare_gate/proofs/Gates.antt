@@ -1,8 +1,7 @@
 -- What charging a gate or the seal does to the slots of a page.
-use Rattle.std.proofs.Common.{◌≡◌, ◌≢◌, ℕ, ◌+◌, ◌-◌, ◌*◌, ◌/◌, ◌%◌, ◌<◌, true, List, length, drop, get_or, ◌==◌, slice_index, sym, ap, ap₂, ◌∙◌, arith, length-set, length-take, length-drop, get_or-take, get_or-drop}
-use Rattle.std.specs.Int.{bit_at}
+use Rattle.std.proofs.Common.{◌≡◌, ◌≢◌, ℕ, ◌+◌, ◌-◌, ◌*◌, ◌/◌, ◌<◌, true, List, length, drop, get_or, sym, ◌∙◌, arith, length-set, length-take, length-drop, get_or-take, get_or-drop}
 use Rattle.std.proofs.lemmas.List.{ext_get_or}
-use Rattle.cell_bits.specs.Cells.{is_charged, with_charged}
+use Rattle.cell_bits.specs.Cells.{with_charged}
 use Rattle.cell_bits.proofs.Slices.{charged_rest}
 use Rattle.cell_bits.proofs.Charging.{charged_same, charged_other, charged_byte_other}
 use Rattle.spare_gate.specs.Slots.{is_gate_charged, is_seal_charged, word_at, gate_cell_of, seal_cell_of}

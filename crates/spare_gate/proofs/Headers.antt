@@ -1,10 +1,10 @@
 -- What the word of a header in a slot does to the other bytes of a spare area.
-use Rattle.std.proofs.Common.{◌≡◌, ◌≢◌, ◌⊎◌, inl, inr, ℕ, ◌+◌, ◌-◌, ◌*◌, ◌/◌, ◌%◌, ◌^◌, ◌<◌, ◌≤◌, true, List, length, take, drop, ◌++◌, get_or, ◌==◌, slice_index, slice_set, bit_or, refl, sym, ap, ap₂, ◌∙◌, arith, length-take, length-drop, get_or-take, get_or-drop}
+use Rattle.std.proofs.Common.{◌≡◌, ◌≢◌, ◌⊎◌, inl, inr, ℕ, ◌+◌, ◌-◌, ◌*◌, ◌/◌, ◌%◌, ◌<◌, ◌≤◌, true, List, length, take, drop, ◌++◌, get_or, ◌==◌, slice_index, refl, sym, ap, ap₂, ◌∙◌, arith, length-take, length-drop, get_or-take, get_or-drop}
 use Rattle.std.specs.Int.{bit_at}
 use Rattle.std.proofs.lemmas.Bool.{cases_lt}
 use Rattle.std.proofs.lemmas.List.{ext_get_or, take_at, drop_at, length-append, append_assoc, get_or_append_left, get_or-append_right, drop-drop}
 use borrow.Rule.Slice.PartMut.{put_mid}
-use Rattle.cell_bits.specs.Cells.{is_charged, with_charged}
+use Rattle.cell_bits.specs.Cells.{with_charged}
 use Rattle.cell_bits.proofs.Charging.{charged_same, charged_other}
 use Rattle.zero_count.specs.declared.Header.{Header}
 use Rattle.zero_count.specs.HeaderWord.{spelling}
