@@ -1,0 +1,84 @@
+//! The code of Rivest and Shamir (1982): two bits in three cells, written twice. Cells a, b, c hold
+//! the bits b xor c and a xor c; a word carries its message, or else its complement does.
+#![tactic(auto)]
+
+ghost use Rattle.rivest_shamir.specs.Words.{message_of, IsLeast};
+
+use wom_code::{Carry, FromBlank, PackedCode, WomCode, pack, unpack};
+
+/// The message of each word of three cells; the bit b xor c is bit 0.
+const MESSAGE: [u64; 8] = [0, 2, 1, 3, 3, 1, 2, 0];
+
+/// Stands in `NEXT` where no word above the old one carries the message.
+const NONE: u64 = 8;
+
+/// The word of least charge above the old word that carries the message, by message and old word;
+/// cell a is bit 0.
+const NEXT: [[u64; 8]; 4] = [
+    [0, 7, 7, 7, 7, 7, 7, 7],
+    [2, 5, 2, 8, 5, 5, 8, 8],
+    [1, 1, 6, 8, 6, 8, 6, 8],
+    [4, 3, 3, 3, 4, 8, 8, 8],
+];
+
+/// Two bits in three cells. `over` gives the word of least charge, and there is one alone.
+#[derive(Clone, Copy, Debug)]
+pub struct RivestShamir;
+
+impl RivestShamir {
+    /// The code, which keeps no state.
+    pub fn new() -> RivestShamir {
+        RivestShamir
+    }
+}
+
+impl WomCode<2, 3> for RivestShamir {
+    ghost decoding = { λ code. message_of };
+
+    ghost gives = { λ code. IsLeast };
+
+    fn decode(&self, cells: &[bool], msg: &mut [bool]) {
+        let mut cell_row = [0];
+        let mut message_row = [0];
+        pack(cells, &mut cell_row);
+        self.decode_words(&cell_row, &mut message_row);
+        unpack(&message_row, msg);
+    }
+
+    fn over(&mut self, old: &[bool], msg: &[bool], out: &mut [bool]) -> Carry {
+        let mut old_row = [0];
+        let mut message_row = [0];
+        let mut out_row = [0];
+        pack(old, &mut old_row);
+        pack(msg, &mut message_row);
+        let carry = self.over_words(&old_row, &message_row, &mut out_row);
+        if carry == Carry::Carried {
+            unpack(&out_row, out);
+        }
+        carry
+    }
+}
+
+impl PackedCode<2, 3> for RivestShamir {
+    fn decode_words(&self, cells: &[u64], msg: &mut [u64]) {
+        msg[0] = MESSAGE[cells[0] as usize];
+    }
+
+    fn over_words(&mut self, old: &[u64], msg: &[u64], out: &mut [u64]) -> Carry {
+        let next = NEXT[msg[0] as usize][old[0] as usize];
+        if next == NONE {
+            return Carry::Declined;
+        }
+        out[0] = next;
+        Carry::Carried
+    }
+}
+
+impl FromBlank<2, 3> for RivestShamir {
+    ghost use Rattle.rivest_shamir.specs.Words.{word_for};
+
+    ghost takes_all = { λ code. word_for };
+}
+
+#[cfg(test)]
+mod tests;

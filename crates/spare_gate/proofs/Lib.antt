@@ -1,0 +1,4 @@
+pub mod Blank
+pub mod Fallen
+pub mod Gates
+pub mod Headers

@@ -1,0 +1,5 @@
+pub mod ChunkLemmas
+pub mod LayoutLemmas
+pub mod ReadLemmas
+pub mod RowSteps
+pub mod SchemeLemmas

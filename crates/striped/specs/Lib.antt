@@ -1,0 +1,4 @@
+pub mod Carried
+pub mod Layouts
+pub mod Meaning
+pub mod Striping

@@ -1,0 +1,10 @@
+//! A sector in chunks, each kept by a code in a row of cells that is spread over the pages of a unit.
+#![tactic(auto)]
+
+mod chunks;
+mod rows;
+mod scheme;
+mod stripes;
+
+pub use scheme::Scheme;
+pub use stripes::{OutOfMemory, Striped};

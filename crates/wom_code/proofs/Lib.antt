@@ -1,0 +1,5 @@
+pub mod OneWord
+pub mod PackedLemmas
+pub mod PlainLemmas
+pub mod TableCodes
+pub mod WordTests

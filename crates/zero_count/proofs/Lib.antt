@@ -1,0 +1,4 @@
+pub mod ValidWords
+pub mod Spelled
+pub mod Reading
+pub mod Spelling
