@@ -1,5 +1,5 @@
 -- What a contract sees of `Links`: lists of node numbers.
-use Rattle.std.specs.Prelude.{ℕ, ◌≡◌, ◌+◌, ◌<◌, ◌≤◌, ◌==◌, not, if◌then◌else◌, List, [], ◌∷◌, ◌++◌, map, slice_set, slice_index_or}
+use Rattle.std.specs.Prelude.{ℕ, ◌≡◌, ◌+◌, ◌<◌, ◌≤◌, ◌==◌, not, if◌then◌else◌, List, [], ◌∷◌, ◌++◌, map, length, slice_set, slice_index, slice_index_or}
 use Rattle.std.specs.List.{filter}
 
 -- how often v stands in the list
@@ -35,6 +35,14 @@ IsFree ls n = (b : ℕ) → times n (list_at ls b) ≡ 0
 -- the node stands in one of the lists
 abbrev pub IsListed : List (List ℕ) → ℕ → Type 0
 IsListed ls n = (b : ℕ) × (0 < times n (list_at ls b))
+
+-- the node is the first of a list
+abbrev pub IsFront : List ℕ → ℕ → Type 0
+IsFront xs n = (0 < length xs) × (slice_index xs 0 ≡ n)
+
+-- the node stands once in the list of this bucket
+abbrev pub IsHome : List (List ℕ) → ℕ → ℕ → Type 0
+IsHome ls n b = (b < length ls) × (times n (list_at ls b) ≡ 1)
 
 -- no node stands twice, in one list or in two, and each is below the number of nodes
 pub record IsValid (v : Lists) : Type 0 where

@@ -1,7 +1,7 @@
 //! List `b` is a ring: from its end, which is place `nodes + b`, over its nodes in order, and back to the end.
 //! So no write asks whether a node is the first or the last of its list.
 ghost use Rattle.std.specs.Prelude.{◌≡◌, ◌<◌, [], length, replicate, slice_index, IfOk, MatchOption, EachIndex};
-ghost use Rattle.block_links.specs.Lists.{Lists, IsValid, times, list_at, appended, removed, IsFree, IsListed};
+ghost use Rattle.block_links.specs.Lists.{Lists, IsValid, list_at, appended, removed, IsFree, IsListed, IsFront, IsHome};
 
 use std::alloc::{AllocError, Global};
 use std::marker::Model;
@@ -95,7 +95,7 @@ impl Links {
     /// The first node of a list, if it has one.
     pub fn front(&self, bucket: u32) -> Option<u32>
         requires { bucket < length self.now.lists }
-        ensures first { MatchOption result (list_at self.now.lists bucket ≡ []) (λ n. (0 < length (list_at self.now.lists bucket)) × (slice_index (list_at self.now.lists bucket) 0 ≡ n)) }
+        ensures first { MatchOption result (list_at self.now.lists bucket ≡ []) (IsFront (list_at self.now.lists bucket)) }
         ensures valid { IsValid self.now }
     {
         let end = self.home.len() + bucket as usize;
@@ -110,7 +110,7 @@ impl Links {
     /// The list that a node is in, if it is in one.
     pub fn bucket_of(&self, node: u32) -> Option<u32>
         requires { node < self.now.nodes }
-        ensures home { MatchOption result (IsFree self.now.lists node) (λ b. (b < length self.now.lists) × (times node (list_at self.now.lists b) ≡ 1)) }
+        ensures home { MatchOption result (IsFree self.now.lists node) (IsHome self.now.lists node) }
         ensures valid { IsValid self.now }
     {
         self.home[node as usize]
