@@ -1,0 +1,4 @@
+pub mod State
+pub mod Book
+pub mod Victim
+pub mod Kept
