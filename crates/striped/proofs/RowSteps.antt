@@ -8,7 +8,7 @@ use Rattle.std.proofs.lemmas.List.{get_or_past}
 use Rattle.cell_bits.specs.Cells.{charge_at}
 use Rattle.cell_bits.proofs.PieceLemmas.{bit_at_shl, bit_at_shl_below, piece_bit}
 use Rattle.wom_code.specs.Packed.{word_bit}
-use Rattle.wom_code.proofs.PlainLemmas.{set_word_same, set_word_other}
+use Rattle.wom_code.proofs.PackedLemmas.{set_word_same, set_word_other}
 
 -- bits that are put into the word of a cell, above the charged ones
 abbrev pub joined : List ℕ → ℕ → ℕ → List ℕ

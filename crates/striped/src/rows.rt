@@ -1,3 +1,6 @@
+//! Runs of cells between bytes and packed rows, by whole words of a row.
+//! A packed row holds cell `i` as bit `i % 64` of word `i / 64`.
+
 ghost use Rattle.std.specs.Prelude.{◌≡◌, ℕ, ◌+◌, ◌*◌, ◌/◌, ◌%◌, ◌≤◌, ◌<◌, ◌^◌, ◌-◌, ◌⊎◌, length};
 ghost use Rattle.cell_bits.specs.Cells.{charge_at};
 ghost use Rattle.wom_code.specs.Packed.{word_bit};

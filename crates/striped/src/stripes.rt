@@ -9,7 +9,7 @@ use std::alloc::{AllocError, Global};
 
 use wom_code::{Carry, FromBlank, PackedCode};
 
-use crate::chunks::{Layout, read_chunks, write_chunks};
+use crate::chunks::{Layout, read_chunks, write_chunks, write_or_keep};
 use crate::scheme::Scheme;
 
 pub type OutOfMemory = AllocError;
@@ -22,10 +22,11 @@ fn layout_of(message_bits: usize, page_cells: usize, cells: usize, sector_bytes:
     ensures layout { IsLayout message_bits cells sector_bytes result }
 {
     let chunks = (8 * sector_bytes as usize).div_ceil(message_bits);
+    let page_bytes = (chunks * page_cells).div_ceil(8);
     Layout {
         page_cells,
         span: cells / page_cells,
-        page_bytes: (chunks * page_cells).div_ceil(8),
+        page_bytes,
         chunks,
     }
 }
@@ -110,12 +111,7 @@ impl<F: FromBlank<K, M>, S: PackedCode<K, N>, const K: usize, const M: usize, co
 
     fn over(&mut self, unit: &mut [u8], sector: &[u8]) -> Carry {
         let layout = layout_of(K, M, N, self.sector_bytes);
-        self.unit.copy_from_slice(unit);
-        let carry = write_chunks(&mut self.second, layout, &mut self.unit, sector);
-        if carry == Carry::Carried {
-            unit.copy_from_slice(&self.unit);
-        }
-        carry
+        write_or_keep(&mut self.second, layout, unit, &mut self.unit, sector)
     }
 
     fn read_second(&self, unit: &[u8], sector: &mut [u8]) {

@@ -1,7 +1,7 @@
 use Rattle.std.proofs.Common.{◌≡◌, ℕ, ◌+◌, ◌*◌, ◌<◌, ◌≤◌, Bool, List, length}
 use Rattle.cell_bits.specs.Cells.{charge_at, IsAbove}
 use Rattle.striped.specs.Striping.{striping, chunk_cells, chunk_message}
-use Rattle.striped.proofs.chunks.write_chunks.Given as goal
+use Rattle.striped.proofs.chunks.write_each.Given as goal
 
 abbrev pub invariant-loop-i : goal.invariant-loop-i
 invariant-loop-i g l = record {

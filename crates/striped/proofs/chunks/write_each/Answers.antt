@@ -7,7 +7,7 @@ use Rattle.wom_code.specs.Cells.{cell_at}
 use Rattle.wom_code.specs.Packed.{cells_of, word_bit}
 use Rattle.striped.specs.Striping.{Striping, striping, chunks, page_bytes, chunk_cells, chunk_message}
 use Rattle.striped.proofs.ChunkLemmas.{start_below, chunk_within, chunk_is, message_is, chunk_stays, IsWrite, write_above, none_carries, carried_more}
-use Rattle.striped.proofs.chunks.write_chunks.Goals as goal
+use Rattle.striped.proofs.chunks.write_each.Goals as goal
 
 within : (s : Striping) (i n pb : ℕ) → n ≡ chunks s → pb ≡ page_bytes s → i < n → i * s.page_cells + s.page_cells ≤ 8 * pb
 within s i n pb e f h = omega (arith, chunk_within s i (omega arith))

@@ -5,7 +5,7 @@ use Rattle.striped.specs.Striping.{Striping, striping, chunks, page_bytes}
 use Rattle.striped.proofs.ChunkLemmas.{start_below, chunk_within, chunk_is}
 use Rattle.striped.specs.Carried.{decoded_is}
 use Rattle.striped.proofs.ReadLemmas.{read_more}
-use Rattle.striped.proofs.chunks.read_chunks.Goals as goal
+use Rattle.striped.proofs.chunks.read_each.Goals as goal
 
 within : (s : Striping) (i n pb : ℕ) → n ≡ chunks s → pb ≡ page_bytes s → i < n → i * s.page_cells + s.page_cells ≤ 8 * pb
 within s i n pb e f h = omega (arith, chunk_within s i (omega arith))
@@ -34,7 +34,7 @@ put_message-requires-clause-starts g c =
 pub loop-i-preserved : goal.loop-i-preserved
 loop-i-preserved g c = record {
   read = read_more (striping g.row.K c.args.layout.page_cells g.row.N (length c.args.sector.now)) g.row.N (g.C.WomCode.decoding c.args.code.now) c.args.bytes.now c.loop-i.sector c.put_message.new.sector
-      c.take_chunk.new.words c.decode_words.new.message c.loop-i.i c.decode_words.ensures.message
+      c.take_chunk.new.words c.decode_words.new.msg c.loop-i.i c.decode_words.ensures.message
       (chunk_is (striping g.row.K c.args.layout.page_cells g.row.N (length c.args.sector.now)) g.row.N c.args.bytes.now c.loop-i.i c.args.layout.page_bytes c.take_chunk.new.words c.requires.layout.page_is
           (λ n h. c.take_chunk.ensures.taken n (omega (arith, c.requires.layout.spans))))
       (omega (arith, c.loop-i.auto.sector)) c.put_message.ensures.put c.put_message.ensures.below c.loop-i.invariant.read;
