@@ -25,7 +25,7 @@ unreachable-requires g c =
 pub returns-clause-carries : goal.returns-clause-carries
 returns-clause-carries g c =
     carries_at g.row.K c.layout_of.result.page_cells g.row.M g.row.M (length c.args.sector.now) c.args.self.now.sector_bytes (g.F.WomCode.decoding c.args.self.now.first) c.write_chunks.new.bytes c.args.sector.now
-      c.layout_of.ensures.page_cells c.requires.sector (c.in-Carried.ensures.carried refl)
+      c.layout_of.ensures.page_cells c.requires.sector (c.in-Carried.ensures.written refl).carried
 
 pub returns-clause-rest : goal.returns-clause-rest
 returns-clause-rest g c =
@@ -35,7 +35,7 @@ returns-clause-rest g c =
     let used : c.layout_of.result.chunks * c.layout_of.result.page_cells ≡ chunks (striping g.row.K g.row.M g.row.N c.args.self.now.sector_bytes) * g.row.M =
         ap₂ (λ (x y : ℕ). x * y) c.layout_of.ensures.layout.chunks_are c.layout_of.ensures.page_cells in
     λ cell past. rest_blank c.fill.new.self c.write_chunks.new.bytes c.layout_of.result.page_bytes (c.layout_of.result.chunks * c.layout_of.result.page_cells)
-      (c.write_chunks.auto.bytes ∙ (c.fill.ensures.len ∙ (c.requires.page ∙ sym page))) blank (c.in-Carried.ensures.rest refl) cell (subst (λ (n : ℕ). n ≤ cell) (sym used) past)
+      (c.write_chunks.auto.bytes ∙ (c.fill.ensures.len ∙ (c.requires.page ∙ sym page))) blank (c.in-Carried.ensures.written refl).rest cell (subst (λ (n : ℕ). n ≤ cell) (sym used) past)
 
 pub returns-clause-same : goal.returns-clause-same
 returns-clause-same g c =

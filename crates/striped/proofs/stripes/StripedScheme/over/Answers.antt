@@ -5,9 +5,9 @@ use Rattle.striped.proofs.stripes.StripedScheme.over.Goals as goal
 
 pub returns-clause-carried : goal.returns-clause-carried
 returns-clause-carried g c = λ e. record {
-  above = c.write_or_keep.ensures.above e;
+  above = (c.write_or_keep.ensures.written e).above;
   carries = carries_at g.row.K c.layout_of-layout.result.page_cells g.row.M g.row.N (length c.args.sector.now) c.args.self.now.sector_bytes (g.S.WomCode.decoding c.args.self.now.second) c.write_or_keep.new.bytes c.args.sector.now
-      c.layout_of-layout.ensures.page_cells c.requires.sector (c.write_or_keep.ensures.carried e);
+      c.layout_of-layout.ensures.page_cells c.requires.sector (c.write_or_keep.ensures.written e).carried;
 }
 
 pub returns-clause-declined : goal.returns-clause-declined
