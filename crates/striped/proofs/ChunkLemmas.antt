@@ -126,6 +126,7 @@ write_above n m span i pb old new cells out w e above = above_from new old w.len
           where
             plus : (p : ℕ) → span ≤ p → span + (p - span) ≡ p
             plus p h = omega arith
+
             grown : (d : ℕ) → 8 * (span * pb) ≤ 8 * pb * (span + d)
             grown d = grind arith
 

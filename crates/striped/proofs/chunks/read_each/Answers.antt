@@ -1,3 +1,4 @@
+-- One more chunk: its bits are what the code decodes, and those of earlier chunks stay.
 use Rattle.std.proofs.Common.{◌≡◌, ℕ, ◌+◌, ◌*◌, ◌<◌, ◌≤◌, Bool, List, length, sym, ◌∙◌, arith}
 use Rattle.std.proofs.lemmas.Grind.{div_ceil_times}
 use Rattle.std.proofs.lemmas.Nat.{mul-le}
@@ -36,7 +37,7 @@ loop-i-preserved g c = record {
   read = read_more (striping g.row.K c.args.layout.page_cells g.row.N (length c.args.sector.now)) g.row.N (g.C.WomCode.decoding c.args.code.now) c.args.bytes.now c.loop-i.sector c.put_message.new.sector
       c.take_chunk.new.words c.decode_words.new.msg c.loop-i.i c.decode_words.ensures.message
       (chunk_is (striping g.row.K c.args.layout.page_cells g.row.N (length c.args.sector.now)) g.row.N c.args.bytes.now c.loop-i.i c.args.layout.page_bytes c.take_chunk.new.words c.requires.layout.page_is
-          (λ n h. c.take_chunk.ensures.taken n (omega (arith, c.requires.layout.spans))))
+      (λ n h. c.take_chunk.ensures.taken n (omega (arith, c.requires.layout.spans))))
       (omega (arith, c.loop-i.auto.sector)) c.put_message.ensures.put c.put_message.ensures.below c.loop-i.invariant.read;
   are = λ k. (c.type_inv.sector k).fits;
 }

@@ -1,3 +1,4 @@
+-- One more chunk: the earlier ones keep their cells, and the later ones still have the old cells.
 use Rattle.std.proofs.Common.{◌≡◌, ℕ, ◌+◌, ◌*◌, ◌<◌, ◌≤◌, ◌⊎◌, Bool, List, true, length, sym, ◌∙◌, ap, subst, refl, inl, inr, arith}
 use Rattle.std.proofs.lemmas.Bool.{cases_lt}
 use Rattle.std.proofs.lemmas.Nat.{row_fits}
@@ -33,19 +34,21 @@ take_message-requires-clause-starts g c = start_below (8 * length c.args.sector.
 
 pub returns-in-Declined-clause-declined : goal.returns-in-Declined-clause-declined
 returns-in-Declined-clause-declined g c = λ answer.
-    let below : c.loop-i.i < chunks (striping g.row.K c.args.layout.page_cells g.row.N (length c.args.sector.now)) = omega (arith, c.requires.layout.chunks_are) in
-    (c.loop-i.i, below,
-     none_carries g.row.N (g.C.WomCode.decoding c.loop-i.code) (g.C.WomCode.decoding c.args.code.now) (cells_of g.row.N c.take_chunk.new.words)
-        (chunk_cells (striping g.row.K c.args.layout.page_cells g.row.N (length c.args.sector.now)) g.row.N c.args.bytes.now c.loop-i.i)
-        (cells_of g.row.K c.take_message.new.words)
-        (chunk_message (striping g.row.K c.args.layout.page_cells g.row.N (length c.args.sector.now)) c.args.sector.now c.loop-i.i)
-        c.loop-i.invariant.code
-        (chunk_is (striping g.row.K c.args.layout.page_cells g.row.N (length c.args.sector.now)) g.row.N c.loop-i.bytes c.loop-i.i c.args.layout.page_bytes c.take_chunk.new.words c.requires.layout.page_is
-            (λ n h. c.take_chunk.ensures.taken n (omega (arith, c.requires.layout.spans)))
-        ∙ chunk_stays (striping g.row.K c.args.layout.page_cells g.row.N (length c.args.sector.now)) g.row.N c.loop-i.bytes c.args.bytes.now c.args.layout.page_bytes c.loop-i.i
-            (λ n. c.loop-i.i * c.args.layout.page_cells ≤ n) c.requires.layout.page_is c.requires.layout.some_cells below c.loop-i.invariant.rest (λ r h. omega arith))
-        (message_is (striping g.row.K c.args.layout.page_cells g.row.N (length c.args.sector.now)) c.args.sector.now c.loop-i.i c.take_message.new.words c.take_message.ensures.taken)
-        (c.in-Declined.ensures.declined refl))
+    let below : c.loop-i.i < chunks (striping g.row.K c.args.layout.page_cells g.row.N (length c.args.sector.now)) = omega (arith, c.requires.layout.chunks_are) in (
+      c.loop-i.i,
+      below,
+      none_carries g.row.N (g.C.WomCode.decoding c.loop-i.code) (g.C.WomCode.decoding c.args.code.now) (cells_of g.row.N c.take_chunk.new.words)
+          (chunk_cells (striping g.row.K c.args.layout.page_cells g.row.N (length c.args.sector.now)) g.row.N c.args.bytes.now c.loop-i.i)
+          (cells_of g.row.K c.take_message.new.words)
+          (chunk_message (striping g.row.K c.args.layout.page_cells g.row.N (length c.args.sector.now)) c.args.sector.now c.loop-i.i)
+          c.loop-i.invariant.code
+          (chunk_is (striping g.row.K c.args.layout.page_cells g.row.N (length c.args.sector.now)) g.row.N c.loop-i.bytes c.loop-i.i c.args.layout.page_bytes c.take_chunk.new.words c.requires.layout.page_is
+          (λ n h. c.take_chunk.ensures.taken n (omega (arith, c.requires.layout.spans)))
+          ∙ chunk_stays (striping g.row.K c.args.layout.page_cells g.row.N (length c.args.sector.now)) g.row.N c.loop-i.bytes c.args.bytes.now c.args.layout.page_bytes c.loop-i.i
+          (λ n. c.loop-i.i * c.args.layout.page_cells ≤ n) c.requires.layout.page_is c.requires.layout.some_cells below c.loop-i.invariant.rest (λ r h. omega arith))
+          (message_is (striping g.row.K c.args.layout.page_cells g.row.N (length c.args.sector.now)) c.args.sector.now c.loop-i.i c.take_message.new.words c.take_message.ensures.taken)
+          (c.in-Declined.ensures.declined refl),
+    )
 
 pub put_chunk-requires-clause-within : goal.put_chunk-requires-clause-within
 put_chunk-requires-clause-within g c =
@@ -70,7 +73,7 @@ loop-i-preserved g c =
           w c.requires.layout.spans c.requires.layout.page_is below (c.in-Carried.ensures.carried refl) c.take_message.ensures.taken c.loop-i.invariant.code c.loop-i.invariant.carried;
       above = above_trans c.put_chunk.new.bytes c.loop-i.bytes c.args.bytes.now
           (write_above g.row.N c.args.layout.page_cells c.args.layout.span c.loop-i.i c.args.layout.page_bytes c.loop-i.bytes c.put_chunk.new.bytes c.take_chunk.new.words c.over_words.new.out w c.requires.layout.spans
-              (c.in-Carried.ensures.carried refl).above)
+          (c.in-Carried.ensures.carried refl).above)
           c.loop-i.invariant.above;
       rest = λ page n h l. c.put_chunk.ensures.others page n h (inr (omega arith)) ∙ c.loop-i.invariant.rest page n h (omega arith);
     }

@@ -1,3 +1,4 @@
+-- The chunks so far carry their messages, all cells are above the old ones, and those of later chunks are the old ones.
 use Rattle.std.proofs.Common.{◌≡◌, ℕ, ◌+◌, ◌*◌, ◌<◌, ◌≤◌, Bool, List, length}
 use Rattle.cell_bits.specs.Cells.{charge_at, IsAbove}
 use Rattle.striped.specs.Striping.{striping, chunk_cells, chunk_message}

@@ -10,6 +10,6 @@ layout_of-requires g c = fits_page g.row.K g.row.M g.row.N c.args.self.now.secto
 pub read_chunks-requires-clause-bytes : goal.read_chunks-requires-clause-bytes
 read_chunks-requires-clause-bytes g c =
     let page : c.layout_of.result.page_bytes ≡ page_bytes (striping g.row.K g.row.M g.row.M c.args.self.now.sector_bytes) =
-        c.layout_of.ensures.layout.page_is ∙ ap (λ (m : ℕ). page_bytes (striping g.row.K m g.row.M c.args.self.now.sector_bytes)) c.layout_of.ensures.page_cells in
+    c.layout_of.ensures.layout.page_is ∙ ap (λ (m : ℕ). page_bytes (striping g.row.K m g.row.M c.args.self.now.sector_bytes)) c.layout_of.ensures.page_cells in
     let some : 1 ≤ g.row.M = omega (arith, c.args.self.now.fitting.some_bits, c.args.self.now.fitting.fits) in
     one_page_bytes g.row.M c.layout_of.result.span c.layout_of.result.page_bytes _ some c.layout_of.ensures.span (c.requires.page ∙ sym page)
