@@ -97,3 +97,6 @@ impl FromBlank<3, 7> for HammingSeven {
 
     ghost takes_all = { λ code. word_for };
 }
+
+#[cfg(test)]
+mod tests;

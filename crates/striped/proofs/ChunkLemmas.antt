@@ -6,6 +6,7 @@ use Rattle.std.proofs.lemmas.List.{ext_get_or}
 use Rattle.std.proofs.lemmas.List.FromFn.{length-map-range_with_len, get_or-map-range_with_len}
 use Rattle.std.proofs.lemmas.Nat.{row_fits, div-add-mod', div-mul-add, mod-mul-add, mod_below}
 use Rattle.cell_bits.specs.Cells.{charge_at, is_charged, IsAbove}
+use Rattle.cell_bits.proofs.Above.{above_from}
 use Rattle.wom_code.specs.Cells.{cell_at, Carries, NoneCarries}
 use Rattle.wom_code.specs.Packed.{word_bit, cells_of, IsRow}
 use Rattle.wom_code.proofs.PackedLemmas.{get_or-cells_of, same_cells}
@@ -98,10 +99,7 @@ pub record IsWrite (m span i pb : ℕ) (old new cells out : List ℕ) : Type 0 w
 -- the cells of all others stay, so the new bytes are above the old ones where the chunk's are
 pub write_above : (n m span i pb : ℕ) (old new cells out : List ℕ) → IsWrite m span i pb old new cells out → n ≡ span * m →
     ((c : ℕ) → cell_at (cells_of n cells) c ≡ true → cell_at (cells_of n out) c ≡ true) → IsAbove new old
-write_above n m span i pb old new cells out w e above = record {
-  same_length = w.len_new;
-  keeps = λ x h. eq-eqb _ _ (kept x (eqb-true _ _ h));
-}
+write_above n m span i pb old new cells out w e above = above_from new old w.len_new (λ x h. eq-eqb _ _ (kept x (eqb-true _ _ h)))
   where
     split : (x : ℕ) → 8 * pb * (x / (8 * pb)) + x % (8 * pb) ≡ x
     split x = omega (arith, div-add-mod' x (8 * pb))
@@ -128,6 +126,7 @@ write_above n m span i pb old new cells out w e above = record {
           where
             plus : (p : ℕ) → span ≤ p → span + (p - span) ≡ p
             plus p h = omega arith
+
             grown : (d : ℕ) → 8 * (span * pb) ≤ 8 * pb * (span + d)
             grown d = grind arith
 

@@ -8,7 +8,7 @@ use Rattle.std.proofs.lemmas.List.{get_or_past}
 use Rattle.cell_bits.specs.Cells.{charge_at}
 use Rattle.cell_bits.proofs.PieceLemmas.{bit_at_shl, bit_at_shl_below, piece_bit}
 use Rattle.wom_code.specs.Packed.{word_bit}
-use Rattle.wom_code.proofs.PlainLemmas.{set_word_same, set_word_other}
+use Rattle.wom_code.proofs.PackedLemmas.{set_word_same, set_word_other}
 
 -- bits that are put into the word of a cell, above the charged ones
 abbrev pub joined : List ℕ → ℕ → ℕ → List ℕ
@@ -26,7 +26,7 @@ joined_bit words cell more bits n i e =
     set_word_same words (cell / 64) _ i n.room e
     ∙ bit_at_or (slice_index words (cell / 64)) _ (i % 64)
     ∙ ap₂ (λ (x y : ℕ). max x y) (ap (λ q. bit_at (slice_index words q) (i % 64)) (sym e))
-        (ap (λ x. bit_at x (i % 64)) (shl_whole bits more (cell % 64) 64 n.narrow (omega (arith, n.fits))))
+    (ap (λ x. bit_at x (i % 64)) (shl_whole bits more (cell % 64) 64 n.narrow (omega (arith, n.fits))))
 
 pub joined_below : (words : List ℕ) (cell more bits : ℕ) → IsNext words cell more bits → (i : ℕ) → i < cell → word_bit (joined words cell bits) i ≡ word_bit words i
 joined_below words cell more bits n i h =
@@ -72,9 +72,10 @@ word_piece words cell more mask e fits i h =
 pub on_page : (cells page c : ℕ) → page * cells ≤ c → c < page * cells + cells → (c / cells ≡ page) × (c % cells ≡ c - page * cells)
 on_page cells page c h l =
     let within : c - page * cells < cells = omega arith in
-    let whole : page * cells + (c - page * cells) ≡ c = omega arith in
-    (sym (ap (λ x. x / cells) whole) ∙ div-mul-add page cells (c - page * cells) within,
-     sym (ap (λ x. x % cells) whole) ∙ mod-mul-add page cells (c - page * cells) within)
+    let whole : page * cells + (c - page * cells) ≡ c = omega arith in (
+      sym (ap (λ x. x / cells) whole) ∙ div-mul-add page cells (c - page * cells) within,
+      sym (ap (λ x. x % cells) whole) ∙ mod-mul-add page cells (c - page * cells) within,
+    )
 
 -- pages in order
 pub rows : (size a b : ℕ) → a < b → size * a + size ≤ size * b

@@ -1,33 +1,37 @@
 -- From chunks to whole units.
-use Rattle.std.proofs.Common.{◌≡◌, ℕ, ◌<◌, ◌≤◌, ◌*◌, Bool, true, false, List, length, get_or, replicate, ◌==◌, sym, ◌∙◌, ap, ap₂, subst, refl, inl, inr, arith}
+use Rattle.std.proofs.Common.{◌≡◌, ℕ, ◌<◌, ◌≤◌, ◌+◌, ◌*◌, ◌/◌, ◌%◌, Bool, true, false, List, length, get_or, replicate, ◌==◌, sym, ◌∙◌, ap, ap₂, subst, refl, inl, inr, arith}
 use Rattle.std.proofs.lemmas.Bool.{cases_lt, false≢true}
-use Rattle.std.proofs.lemmas.List.{get_or_past}
+use Rattle.std.specs.Int.{bit_at}
+use Rattle.std.proofs.lemmas.List.{get_or_past, get_or-replicate, length-replicate}
+use Rattle.std.proofs.lemmas.Nat.Bits.{bit_at-zero}
 use Rattle.cell_bits.specs.Cells.{charge_at, is_charged, IsAbove}
+use Rattle.cell_bits.proofs.Above.{keeps}
 use Rattle.wom_code.specs.Cells.{cell_at, Carries, NoneCarries}
-use Rattle.striped.specs.Striping.{Striping, page_bytes, chunks, chunk_cells, chunk_message, carries}
-use Rattle.striped.specs.Decoding.{NoneAbove}
-use Rattle.striped.specs.Layouts.{decoding_of}
+use Rattle.striped.specs.Striping.{Striping, striping, page_bytes, chunks, chunk_cells, chunk_message, IsCarried, carries}
+use Rattle.striped.specs.Layouts.{meaning_of}
 use Rattle.striped.proofs.ChunkLemmas.{length-chunk_cells, get_or-chunk_cells, length-chunk_message, place}
 use Rattle.striped.specs.Carried.{carries_to}
+use Rattle.striped.proofs.ReadLemmas.{carries_from}
+use Rattle.striped.proofs.RowSteps.{charge_at-past}
 
 -- the codes decode as before, so the scheme does
-pub same_decoding : (k m n b g : ℕ) (f f' h h' : List Bool → List Bool) → ((row : List Bool) → f' row ≡ f row) → ((row : List Bool) → h' row ≡ h row) →
-    decoding_of k m n b g f' h' ≡ decoding_of k m n b g f h
-same_decoding k m n b g f f' h h' p q =
+pub same_meaning : (k m n b g : ℕ) (f f' h h' : List Bool → List Bool) → ((row : List Bool) → f' row ≡ f row) → ((row : List Bool) → h' row ≡ h row) →
+    meaning_of k m n b g f' h' ≡ meaning_of k m n b g f h
+same_meaning k m n b g f f' h h' p q =
     let e : f' ≡ f = λ i row. p row i in
     let d : h' ≡ h = λ i row. q row i in
-    ap₂ (decoding_of k m n b g) e d
+    ap₂ (meaning_of k m n b g) e d
 
 chunk_above : (s : Striping) (n : ℕ) (new old : List ℕ) (i : ℕ) → IsAbove new old → (c : ℕ) → cell_at (chunk_cells s n old i) c ≡ true → cell_at (chunk_cells s n new i) c ≡ true
 chunk_above s n new old i above c h =
     elim (cases_lt c n) [
-      | inl l ↦ get_or-chunk_cells s n new i c l ∙ above.keeps (place (8 * page_bytes s) s.page_cells i c) (sym (get_or-chunk_cells s n old i c l) ∙ h)
+      | inl l ↦ get_or-chunk_cells s n new i c l ∙ keeps above (place (8 * page_bytes s) s.page_cells i c) (sym (get_or-chunk_cells s n old i c l) ∙ h)
       | inr m ↦ absurd (false≢true (sym (get_or_past (chunk_cells s n old i) c false (omega (arith, length-chunk_cells s n old i))) ∙ h))
     ]
 
 -- a chunk that no cells above the old ones carry
 pub none_above : (s : Striping) (n : ℕ) (decode : List Bool → List Bool) (old sector : List ℕ) →
-    (i : ℕ) × (i < chunks s) × NoneCarries decode n (chunk_cells s n old i) (chunk_message s sector i) → NoneAbove (carries s n decode) old sector
+    (i : ℕ) × (i < chunks s) × NoneCarries decode n (chunk_cells s n old i) (chunk_message s sector i) → (new : List ℕ) → IsAbove new old → carries s n decode new sector ≡ true → ⊥
 none_above s n decode old sector d new above e =
     d.2 (chunk_cells s n new d.0) (length-chunk_cells s n new d.0) (record { above = chunk_above s n new old d.0 above; decodes = carries_to s n decode new sector e d.0 d.1 })
 
@@ -45,3 +49,32 @@ blank_takes s n decode old sector takes blank d =
       ];
       decodes = t.2;
     })
+
+-- ---- a striping whose numbers the code has under other names
+
+pub carries_at : (k m m' n b b' : ℕ) (decode : List Bool → List Bool) (bytes sector : List ℕ) → m ≡ m' → b ≡ b' →
+    IsCarried (striping k m n b) n decode bytes sector → carries (striping k m' n b') n decode bytes sector ≡ true
+carries_at k m m' n b b' decode bytes sector p q h =
+    subst (λ (s : Striping). carries s n decode bytes sector ≡ true) (ap₂ (λ (x y : ℕ). striping k x n y) p q) (carries_from (striping k m n b) n decode bytes sector h)
+
+-- no unit cells above the old ones carry the sector
+pub none_above_at : (k m m' n b b' : ℕ) (decode : List Bool → List Bool) (old sector : List ℕ) → m ≡ m' → b ≡ b' →
+    (i : ℕ) × (i < chunks (striping k m n b)) × NoneCarries decode n (chunk_cells (striping k m n b) n old i) (chunk_message (striping k m n b) sector i) →
+    (new : List ℕ) → IsAbove new old → carries (striping k m' n b') n decode new sector ≡ true → ⊥
+none_above_at k m m' n b b' decode old sector p q d new above e =
+    none_above (striping k m n b) n decode old sector d new above (subst (λ (s : Striping). carries s n decode new sector ≡ true) (sym (ap₂ (λ (x y : ℕ). striping k x n y) p q)) e)
+
+-- ---- a page that was blank
+
+pub blank_cell : (n c : ℕ) → charge_at (replicate n 0) c ≡ 0
+blank_cell n c = elim (cases_lt (c / 8) n) [
+  | inl within ↦ ap (λ (byte : ℕ). bit_at byte (c % 8)) (get_or-replicate n (c / 8) 0 0 within) ∙ bit_at-zero (c % 8)
+  | inr past ↦ charge_at-past (replicate n 0) c (omega (arith, length-replicate {A = ℕ} n 0))
+]
+
+pub rest_blank : (old new : List ℕ) (pb used : ℕ) → length new ≡ pb → ((c : ℕ) → charge_at old c ≡ 0) →
+    ((page c : ℕ) → c < 8 * pb → used ≤ c → charge_at new (8 * pb * page + c) ≡ charge_at old (8 * pb * page + c)) → (c : ℕ) → used ≤ c → charge_at new c ≡ 0
+rest_blank old new pb used long blank rest c past = elim (cases_lt c (8 * pb)) [
+  | inl within ↦ (let place : c ≡ 8 * pb * 0 + c = omega arith in ap (charge_at new) place ∙ (rest 0 c within past ∙ blank (8 * pb * 0 + c)))
+  | inr outside ↦ charge_at-past new c (omega arith)
+]

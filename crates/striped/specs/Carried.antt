@@ -71,7 +71,7 @@ decoded_is s n decode bytes sector len are h =
         ap₂ (λ (x y : ℕ). bit_at (slice_index sector x) y == 1) (sym d) (sym m)
         ∙ h (8 * k + i) (omega arith)
         ∙ sym (number_bit (map (λ t. decoded_bit s n decode bytes (8 * k + t)) (range_with_len 0 8)) i
-          ∙ get_or-map-range_with_len (λ t. decoded_bit s n decode bytes (8 * k + t)) 0 8 i i false q (omega arith))
+        ∙ get_or-map-range_with_len (λ t. decoded_bit s n decode bytes (8 * k + t)) 0 8 i i false q (omega arith))
 
     same : (k : ℕ) → k < s.sector_bytes → get_or sector k 0 ≡ get_or (map (λ k. number_of (map (λ t. decoded_bit s n decode bytes (8 * k + t)) (range_with_len 0 8))) (range_with_len 0 s.sector_bytes)) k 0
     same k p =

@@ -2,3 +2,4 @@ pub mod Carried
 pub mod Layouts
 pub mod Meaning
 pub mod Striping
+pub mod Writes

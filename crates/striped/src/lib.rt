@@ -8,3 +8,6 @@ mod stripes;
 
 pub use scheme::Scheme;
 pub use stripes::{OutOfMemory, Striped};
+
+#[cfg(test)]
+mod tests;

@@ -1,3 +1,6 @@
+//! Runs of cells between bytes and packed rows, by whole words of a row.
+//! A packed row holds cell `i` as bit `i % 64` of word `i / 64`.
+
 ghost use Rattle.std.specs.Prelude.{◌≡◌, ℕ, ◌+◌, ◌*◌, ◌/◌, ◌%◌, ◌≤◌, ◌<◌, ◌^◌, ◌-◌, ◌⊎◌, length};
 ghost use Rattle.cell_bits.specs.Cells.{charge_at};
 ghost use Rattle.wom_code.specs.Packed.{word_bit};
@@ -54,7 +57,14 @@ fn put_row(bytes: &mut [u8], at: usize, count: usize, words: &[u64], start: usiz
 }
 
 /// Takes the cells of a chunk: `cells` of them stand on each page, from cell `first` on.
-pub fn take_chunk(bytes: &[u8], page_bytes: usize, span: usize, first: usize, cells: usize, words: &mut [u64])
+pub fn take_chunk(
+    bytes: &[u8],
+    page_bytes: usize,
+    span: usize,
+    first: usize,
+    cells: usize,
+    words: &mut [u64],
+)
     requires small { 8 * length bytes.now < 2 ^ 32 }
     requires unit { length bytes.now ≡ span * page_bytes }
     requires within { first + cells ≤ 8 * page_bytes }
@@ -66,12 +76,25 @@ pub fn take_chunk(bytes: &[u8], page_bytes: usize, span: usize, first: usize, ce
 {
     words.fill(0);
     for page in 0..span {
-        take_row(bytes, 8 * page_bytes * page + first, cells, words, page * cells);
+        take_row(
+            bytes,
+            8 * page_bytes * page + first,
+            cells,
+            words,
+            page * cells,
+        );
     }
 }
 
 /// Puts the cells of a chunk.
-pub fn put_chunk(bytes: &mut [u8], page_bytes: usize, span: usize, first: usize, cells: usize, words: &[u64])
+pub fn put_chunk(
+    bytes: &mut [u8],
+    page_bytes: usize,
+    span: usize,
+    first: usize,
+    cells: usize,
+    words: &[u64],
+)
     requires small { 8 * length bytes.old < 2 ^ 32 }
     requires unit { length bytes.old ≡ span * page_bytes }
     requires within { first + cells ≤ 8 * page_bytes }
@@ -82,7 +105,13 @@ pub fn put_chunk(bytes: &mut [u8], page_bytes: usize, span: usize, first: usize,
     ensures others { (page c : ℕ) → c < 8 * page_bytes → (c < first) ⊎ (first + cells ≤ c) → charge_at bytes.new (8 * page_bytes * page + c) ≡ charge_at bytes.old (8 * page_bytes * page + c) }
 {
     for page in 0..span {
-        put_row(bytes, 8 * page_bytes * page + first, cells, words, page * cells);
+        put_row(
+            bytes,
+            8 * page_bytes * page + first,
+            cells,
+            words,
+            page * cells,
+        );
     }
 }
 

@@ -9,7 +9,7 @@ use wom_code::Carry;
 
 /// A first code for blank pages and a second code for later writes of a unit.
 pub trait Scheme {
-    /// The numbers of the scheme, and what it makes of cells.
+    /// The numbers of the scheme, and what it makes of cells. No call changes it.
     ghost meaning: { Self → Meaning };
 
     /// The bytes of a sector.

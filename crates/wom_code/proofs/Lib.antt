@@ -1,5 +1,9 @@
+pub mod CountLemmas
+pub mod FlipLemmas
+pub mod FrontLemmas
 pub mod OneWord
 pub mod PackedLemmas
 pub mod PlainLemmas
 pub mod TableCodes
+pub mod TurnedLemmas
 pub mod WordTests

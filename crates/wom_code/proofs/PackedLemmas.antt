@@ -1,9 +1,9 @@
 -- Packed rows and the cells that they hold.
-use Rattle.std.proofs.Common.{◌≡◌, ◌≢◌, ℕ, ◌+◌, ◌*◌, ◌/◌, ◌%◌, ◌^◌, ◌<◌, Bool, false, List, length, get_or, set, replicate, bit_or, sym, ◌∙◌, ap, inl, inr, arith, nat_eq}
+use Rattle.std.proofs.Common.{◌≡◌, ◌≢◌, ℕ, ◌+◌, ◌*◌, ◌/◌, ◌%◌, ◌^◌, ◌<◌, ◌≤◌, Bool, false, List, length, get_or, set, take, replicate, bit_or, sym, ◌∙◌, ap, inl, inr, arith, nat_eq}
 use Rattle.std.specs.Int.{bit_at, w64}
 use Rattle.std.proofs.lemmas.Bool.{cases_eq, cases_lt}
 use Rattle.std.proofs.lemmas.List.{get_or-set_same, get_or-set_other, get_or_past, get_or-replicate, length-replicate, ext_get_or}
-use Rattle.std.proofs.lemmas.List.FromFn.{length-map-range_with_len, get_or-map-range_with_len}
+use Rattle.std.proofs.lemmas.List.FromFn.{length-map-range_with_len, get_or-map-range_with_len, take-map-range_with_len}
 use Rattle.std.proofs.lemmas.Nat.Bits.{bit_at_set_same, bit_at_set_other, bit_at-zero, bit_at-lt}
 use Rattle.std.proofs.lemmas.Nat.{mod_below}
 use Rattle.wom_code.specs.Cells.{cell_at}
@@ -80,3 +80,12 @@ set_word_same words q x i h e = ap (λ k. bit_at (get_or (set words q x) k 0) (i
 
 pub set_word_other : (words : List ℕ) (q x i : ℕ) → i / 64 ≢ q → word_bit (set words q x) i ≡ word_bit words i
 set_word_other words q x i n = ap (λ w. bit_at w (i % 64)) (get_or-set_other words q (i / 64) x 0 n)
+
+-- past the words there are no ones
+pub past_words : (words : List ℕ) (i : ℕ) → length words ≤ i / 64 → word_bit words i ≡ 0
+past_words words i h = ap (λ w. bit_at w (i % 64)) (get_or_past words (i / 64) 0 h) ∙ bit_at-zero (i % 64)
+
+-- the first cells of a row
+pub take-cells_of : (k n : ℕ) (words : List ℕ) → k ≤ n → take k (cells_of n words) ≡ cells_of k words
+unfolding cells_of
+take-cells_of k n words h = take-map-range_with_len (λ i. nat_eq (word_bit words i) 1) 0 n k h

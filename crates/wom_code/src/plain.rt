@@ -1,39 +1,10 @@
 //! The plain code: the message stands in the first `K` cells, and the others stay.
 
-ghost use Rattle.std.specs.Prelude.{◌≡◌, ◌↔◌, ℕ, ◌+◌, ◌*◌, ◌≤◌, ◌<◌, ◌^◌, ◌-◌, ◌++◌, Bool, List, length, take, drop, nat_lt, if◌then◌else◌, IsTrue};
-ghost use Rattle.std.specs.Int.{bit_at};
-ghost use Rattle.wom_code.specs.Cells.{IsAbove, Carries, NoneCarries};
-ghost use Rattle.wom_code.specs.Packed.{IsRow, cells_of, words_for, word_bit};
+ghost use Rattle.std.specs.Prelude.{◌≡◌, ◌≤◌, ◌++◌, Bool, List, take, drop};
 
 use crate::code::{Carry, FromBlank, PackedCode, WomCode};
-
-/// Whether every charged cell of the old row is charged in the new one.
-pub fn is_above(new: &[bool], old: &[bool]) -> bool
-    requires { length new.now ≡ length old.now }
-    ensures { IsTrue result ↔ IsAbove new.now old.now }
-{
-    for cell in 0..old.len() {
-        if old[cell] && !new[cell] {
-            return false;
-        }
-    }
-    true
-}
-
-/// The bits of a word of a packed row that stand for cells below the count.
-fn bits_below(count: usize, word: usize) -> u64
-    requires { 64 * word < 2 ^ 64 }
-    ensures { (i : ℕ) → i < 64 → bit_at result i ≡ (if nat_lt (64 * word + i) count then 1 else 0) }
-{
-    let first = 64 * word;
-    if count <= first {
-        0
-    } else if count - first >= 64 {
-        u64::MAX
-    } else {
-        (1 << (count - first)) - 1
-    }
-}
+use crate::front::{fits_front, lay_front, take_front};
+use crate::turned::fits;
 
 /// The message stands in the first `K` cells.
 #[derive(Clone, Copy, Debug)]
@@ -62,7 +33,7 @@ impl<const K: usize, const N: usize> WomCode<K, N> for Plain<K, N> {
     }
 
     fn over(&mut self, old: &[bool], msg: &[bool], out: &mut [bool]) -> Carry {
-        if !is_above(msg, &old[..K]) {
+        if !fits(msg, false, &old[..K]) {
             return Carry::Declined;
         }
         out.copy_from_slice(old);
@@ -73,22 +44,15 @@ impl<const K: usize, const N: usize> WomCode<K, N> for Plain<K, N> {
 
 impl<const K: usize, const N: usize> PackedCode<K, N> for Plain<K, N> {
     fn decode_words(&self, cells: &[u64], msg: &mut [u64]) {
-        for (place, word) in msg.iter_mut().enumerate() {
-            *word = cells[place] & bits_below(K, place);
-        }
+        take_front(cells, K, false, msg);
     }
 
     fn over_words(&mut self, old: &[u64], msg: &[u64], out: &mut [u64]) -> Carry {
-        for (place, word) in msg.iter().enumerate() {
-            let kept = old[place] & bits_below(K, place);
-            if kept | *word != *word {
-                return Carry::Declined;
-            }
+        if !fits_front(msg, K, false, old) {
+            return Carry::Declined;
         }
         out.copy_from_slice(old);
-        for (at, word) in msg.iter().enumerate() {
-            out[at] |= *word;
-        }
+        lay_front(msg, K, false, out);
         Carry::Carried
     }
 }

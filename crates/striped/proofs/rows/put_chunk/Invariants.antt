@@ -1,3 +1,4 @@
+-- The chunk is put on the pages so far, and no other cell of any page changed.
 use Rattle.std.proofs.Common.{◌≡◌, ℕ, ◌+◌, ◌*◌, ◌/◌, ◌%◌, ◌<◌, ◌≤◌, ◌⊎◌}
 use Rattle.cell_bits.specs.Cells.{charge_at}
 use Rattle.wom_code.specs.Packed.{word_bit}

@@ -1,3 +1,4 @@
+-- One more piece of a word: its bits are put, and no other cell changes.
 use Rattle.std.proofs.Common.{◌≡◌, ℕ, List, ◌<◌, ◌≤◌, ◌+◌, ◌-◌, ◌%◌, sym, ◌∙◌, ap, inl, inr, arith}
 use Rattle.std.proofs.lemmas.Bool.{cases_lt}
 use Rattle.cell_bits.specs.Cells.{charge_at}

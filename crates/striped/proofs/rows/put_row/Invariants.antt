@@ -1,3 +1,4 @@
+-- The cells put so far are those of the row, and all others are as they came.
 use Rattle.std.proofs.Common.{◌≡◌, ℕ, ◌+◌, ◌-◌, ◌<◌, ◌≤◌}
 use Rattle.cell_bits.specs.Cells.{charge_at}
 use Rattle.wom_code.specs.Packed.{word_bit}

@@ -1,3 +1,4 @@
+-- The chunk is taken from the pages so far, and no later bit of the row is set.
 use Rattle.std.proofs.Common.{◌≡◌, ℕ, ◌+◌, ◌*◌, ◌/◌, ◌%◌, ◌<◌, ◌≤◌}
 use Rattle.cell_bits.specs.Cells.{charge_at}
 use Rattle.wom_code.specs.Packed.{word_bit}

@@ -1,3 +1,4 @@
+-- The cells taken so far stand in the row, and no later bit is set.
 use Rattle.std.proofs.Common.{◌≡◌, ℕ, ◌+◌, ◌-◌, ◌<◌, ◌≤◌}
 use Rattle.cell_bits.specs.Cells.{charge_at}
 use Rattle.wom_code.specs.Packed.{word_bit}
