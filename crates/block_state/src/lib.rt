@@ -3,7 +3,7 @@
 #![tactic(auto)]
 
 pub mod book;
-pub mod relist;
+mod relist;
 pub mod state;
 
 pub use book::{Book, OutOfMemory};

@@ -1,5 +1,5 @@
 //! The table of the states of a block, row by row: which call makes which state of which.
-ghost use Rattle.std.specs.Prelude.{◌≡◌, ◌<◌, IsTrue};
+ghost use Rattle.std.specs.Prelude.{IsTrue};
 ghost use Rattle.block_state.specs.State.{InRange};
 
 use super::*;
