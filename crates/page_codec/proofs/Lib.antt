@@ -1,0 +1,15 @@
+pub mod Newest
+pub mod Live
+pub mod Changes
+pub mod Erase
+pub mod Within
+pub mod SoundErase
+pub mod SoundProgram
+pub mod SoundGate
+pub mod PutOne
+pub mod PutFirst
+pub mod PutLaws
+pub mod PutCells
+pub mod PutStored
+pub mod PutPads
+pub mod PutTwo

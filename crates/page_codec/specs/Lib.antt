@@ -1,0 +1,10 @@
+pub mod Gate
+pub mod Geometry
+pub mod Puts
+pub mod Records
+pub mod Sectors
+pub mod Seen
+pub mod Sizes
+pub mod Sound
+pub mod TrueBook
+pub mod Units
