@@ -13,3 +13,5 @@ pub mod PutCells
 pub mod PutStored
 pub mod PutPads
 pub mod PutTwo
+pub mod PutUnit
+pub mod PutPair

@@ -1,3 +1,4 @@
+-- The buffer has the first write of the page, and the two change calls leave it or a part of it.
 use Rattle.std.proofs.Common.{rules, ◌≡◌, ◌-◌, ◌+◌, ◌*◌, ◌≤◌, ℕ, List, true, take, drop, length, replicate, sym, ap, ap₂, ◌∙◌, arith, subst}
 use Rattle.std.proofs.lemmas.List.{take_at}
 use Rattle.cell_die.specs.DieState.{page_of, page_bytes, IsShaped}
