@@ -15,3 +15,4 @@ pub mod PutPads
 pub mod PutTwo
 pub mod PutUnit
 pub mod PutPair
+pub mod PutPromises

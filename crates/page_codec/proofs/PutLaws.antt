@@ -16,6 +16,8 @@ use Rattle.page_codec.specs.Geometry.{Geometry, page_count, block_of, spare_at}
 use Rattle.page_codec.specs.Records.{header_in, record_in, below_sectors, may_hold, is_copy, is_sealed, is_committed, if_committed, committed_in, live_record}
 use Rattle.spare_gate.specs.Slots.{with_record}
 use Rattle.page_codec.specs.Gate.{GateWins}
+use Rattle.page_codec.specs.Promises.{HoldsRecord}
+use Rattle.page_codec.specs.Sound.{HeadersBelow}
 use Rattle.page_codec.proofs.Within.{header_valid}
 use Rattle.page_codec.proofs.Live.{live_same, gate_makes_live, gate_leaves_others}
 use Rattle.page_codec.proofs.Changes.{SlotStays, SealStays, committed_stays, ungated}
@@ -102,13 +104,6 @@ put_keeps_live g place h old new p before after = live_same g old new (λ other.
   | inl same ↦ subst (λ (q : Place). committed_in g new q ≡ committed_in g old q) (sym same) (ungated g new place after ∙ sym (ungated g old place before))
 ])
 
--- the slot may hold the record
-pub record HoldsRecord (g : Geometry) (place : Place) (h : Header) : Type 0 where
-  pub slots : 1 ≤ g.generations
-  pub may : may_hold g place ≡ true
-  pub sector : h.sector < g.sectors
-  pub header : IsHeader h
-
 placed_there : (g : Geometry) (place : Place) (h : Header) (old new : List (List ℕ)) → PutsCells g place h old new → HoldsRecord g place h → is_gate_charged (spare_at g new place.page) place.slot ≡ true → record_in g new place ≡ Some h
 unfolding record_in
 placed_there g place h old new p f charged =
@@ -159,10 +154,7 @@ header_after g place h old new p header other k e = elim (cases_eq other.page pl
         let whole = valid_below (spelling h) _ (spelled_valid h header) (header_valid _ k e') (above_bits _ _ (own_word_below g place h old new p)) in
         same_Some k h (sym e' ∙ (ap header_of (sym whole) ∙ read_spelled h header))
 
--- the part of sound cells that every put keeps
-abbrev pub HeadersBelow : Geometry → List (List ℕ) → Type 0
-HeadersBelow g cells = (page slot : ℕ) → page < page_count g → slot < g.generations → (word : List ℕ) × (is_valid word ≡ true) × IsAbove word (word_at (spare_at g cells page) slot)
-
+-- the header cells stay below valid words
 pub put_keeps_headers : (g : Geometry) (place : Place) (h : Header) (old new : List (List ℕ)) → PutsCells g place h old new → IsHeader h → HeadersBelow g old → HeadersBelow g new
 put_keeps_headers g place h old new p header sound page slot in_page in_slot = elim (cases_eq page place.page) [
   | inr apart ↦ was (λ same. absurd (apart same))

@@ -11,7 +11,8 @@ use Rattle.page_codec.specs.Geometry.{Geometry, spare_at, main_at, unit_at}
 use Rattle.page_codec.specs.Records.{Placed, is_copy, committed_in, live_record}
 use Rattle.page_codec.specs.Sectors.{said_by, says_zeros, zero_sector, stored}
 use Rattle.page_codec.specs.Gate.{GateWins}
-use Rattle.page_codec.proofs.PutLaws.{PutsCells, HoldsRecord, put_keeps_live, put_wins}
+use Rattle.page_codec.specs.Promises.{HoldsRecord}
+use Rattle.page_codec.proofs.PutLaws.{PutsCells, put_keeps_live, put_wins}
 
 -- the pages that a live record is read from
 abbrev pub pages_read : Geometry → Placed → ℕ

@@ -1,5 +1,6 @@
 pub mod Gate
 pub mod Geometry
+pub mod Promises
 pub mod Puts
 pub mod Records
 pub mod Sectors

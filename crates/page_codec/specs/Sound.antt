@@ -18,13 +18,22 @@ stands_in g block (Some placed) = block_of g placed.place.page == block
 unfoldable pub live_count : Geometry → List (List ℕ) → ℕ → ℕ
 live_count g cells block = count_by (λ sector. stands_in g block (live_record g cells sector)) (range_with_len 0 g.sectors)
 
+-- the header cells of every slot lie below those of some valid word
+abbrev pub HeadersBelow : Geometry → List (List ℕ) → Type 0
+HeadersBelow g cells = (page slot : ℕ) → page < page_count g → slot < g.generations → (word : List ℕ) × (is_valid word ≡ true) × IsAbove word (word_at (spare_at g cells page) slot)
+
+-- the seqs of all valid headers differ
+abbrev pub SeqsDiffer : Geometry → List (List ℕ) → Type 0
+SeqsDiffer g cells = (a b : Place) (h k : Header) → header_in g cells a ≡ Some h → header_in g cells b ≡ Some k → h.seq ≡ k.seq → a ≡ b
+
+-- every valid header's seq is below a bound
+abbrev pub SeqsBelow : Geometry → ℕ → List (List ℕ) → Type 0
+SeqsBelow g bound cells = (place : Place) (h : Header) → header_in g cells place ≡ Some h → h.seq < bound
+
 -- Cells are sound where four things hold.
 pub record IsSound (g : Geometry) (cells : List (List ℕ)) : Type 0 where
-  -- the header cells of every slot lie below those of some valid word
-  pub below_valid : (page slot : ℕ) → page < page_count g → slot < g.generations → (word : List ℕ) × (is_valid word ≡ true) × IsAbove word (word_at (spare_at g cells page) slot)
-  -- the seqs of all valid headers differ
-  pub seqs_differ : (a b : Place) (h k : Header) → header_in g cells a ≡ Some h → header_in g cells b ≡ Some k → h.seq ≡ k.seq → a ≡ b
+  pub below_valid : HeadersBelow g cells
+  pub seqs_differ : SeqsDiffer g cells
   -- some block has no live record
   pub one_free : (block : ℕ) × (block < g.blocks) × (live_count g cells block ≡ 0)
-  -- every valid header's seq is below this
-  pub small_seqs : (place : Place) (h : Header) → header_in g cells place ≡ Some h → h.seq < 2 ^ 62 + 2 ^ 20
+  pub small_seqs : SeqsBelow g (2 ^ 62 + 2 ^ 20) cells
