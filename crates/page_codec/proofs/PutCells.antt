@@ -1,5 +1,5 @@
 -- A put of a die, by the cells alone.
-use Rattle.std.proofs.Common.{◌≡◌, ◌≢◌, ◌⊎◌, inl, inr, ℕ, ◌+◌, ◌*◌, ◌^◌, ◌<◌, ◌≤◌, true, List, drop, length, slice_index, refl, sym, ap, ◌∙◌, arith, subst, All, length-drop}
+use Rattle.std.proofs.Common.{◌≡◌, inl, inr, ℕ, ◌*◌, ◌^◌, ◌<◌, true, List, drop, length, slice_index, sym, ap, ◌∙◌, arith, subst, All, length-drop}
 use Rattle.std.proofs.lemmas.Bool.{cases_lt}
 use Rattle.std.proofs.lemmas.List.{get_or_past}
 use Rattle.zero_count.specs.declared.Header.{Header}
@@ -9,7 +9,7 @@ use Rattle.spare_gate.specs.Slots.{is_gate_charged}
 use Rattle.page_codec.specs.declared.place.Place.{Place}
 use Rattle.page_codec.specs.Geometry.{Geometry, page_count, shape_of}
 use Rattle.spare_gate.specs.Slots.{with_record}
-use Rattle.page_codec.specs.Puts.{Puts, is_gated}
+use Rattle.page_codec.specs.Puts.{Puts}
 use Rattle.page_codec.proofs.PutLaws.{PutsCells}
 
 byte_at : (row : List ℕ) → All (λ byte. byte < 256) row → (k : ℕ) → slice_index row k < 2 ^ 8

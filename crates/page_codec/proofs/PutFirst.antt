@@ -1,5 +1,5 @@
 -- What a first write of a blank page leaves.
-use Rattle.std.proofs.Common.{◌≡◌, ◌≢◌, ◌⊎◌, inl, inr, ℕ, zero, suc, ◌+◌, ◌-◌, ◌*◌, ◌<◌, ◌≤◌, Bool, true, false, List, [], ◌∷◌, drop, take, length, replicate, ◌==◌, length-drop, refl, sym, ap, ap₂, ◌∙◌, arith, subst, OnOk, OnErr, Result, Ok, Err}
+use Rattle.std.proofs.Common.{◌≡◌, inr, ℕ, zero, suc, ◌+◌, ◌-◌, ◌*◌, ◌≤◌, true, false, List, [], ◌∷◌, drop, take, length, replicate, ◌==◌, length-drop, refl, sym, ap, ap₂, ◌∙◌, arith, subst, OnOk, OnErr, Result, Ok, Err}
 use Rattle.std.proofs.lemmas.Bool.{and_parts, eqb-true}
 use Rattle.std.proofs.lemmas.List.{drop-replicate}
 use Rattle.zero_count.specs.declared.Header.{Header}
@@ -10,9 +10,8 @@ use Rattle.cell_die.proofs.CellLaws.{above_blank, no_charge}
 use Rattle.striped.specs.Meaning.{Meaning}
 use Rattle.spare_gate.specs.Slots.{with_header, gate_cell_of, is_gate_charged}
 use Rattle.cell_bits.proofs.Slices.{charge_main}
-use Rattle.page_codec.specs.declared.place.Place.{Place}
 use Rattle.page_codec.specs.Puts.{Puts, FirstCarries, MainBlank, spare_of, first_slot, is_gated}
-use Rattle.page_codec.proofs.PutOne.{IsTarget, Reaches, put_ends, ends_gated, midway_none, done_here, done_with}
+use Rattle.page_codec.proofs.PutOne.{IsTarget, Reaches, put_ends, ends_gated, midway_none, done_here}
 
 pub blank_row : (row : List ℕ) → is_blank row ≡ true → row ≡ blank_page (length row)
 blank_row [] e = refl
@@ -27,13 +26,23 @@ pub on_ok : {T E P Q : Type 0} (result : Result T E) → (P → Q) → OnOk resu
 on_ok (Ok x) f p = f p
 on_ok (Err x) f p = tt
 
+-- the spare bytes of a blank page
+blank_spare : (page : ℕ) (old : DieState) → is_blank (page_of old page) ≡ true → spare_of old page ≡ replicate (length (page_of old page) - old.shape.main_bytes) 0
+blank_spare page old blank = ap (drop old.shape.main_bytes) (blank_row (page_of old page) blank) ∙ drop-replicate old.shape.main_bytes (length (page_of old page)) 0
+
+-- the first gate of a blank page
+pub blank_page_ungated : (page : ℕ) (old : DieState) → is_blank (page_of old page) ≡ true → is_gated old (first_slot page) ≡ false
+blank_page_ungated page old blank =
+    ap (λ (bytes : List ℕ). is_gate_charged bytes 0) (blank_spare page old blank)
+    ∙ ap (λ (c : ℕ). c == 1) (no_charge (length (page_of old page) - old.shape.main_bytes) (128 * 0))
+
 -- the target of a blank page
 pub first_target : (page : ℕ) (header : Header) (old : DieState) (target : List ℕ) → is_blank (page_of old page) ≡ true → length target ≡ length (page_of old page)
     → drop old.shape.main_bytes target ≡ with_header (replicate (length target - old.shape.main_bytes) 0) 0 header → old.shape.main_bytes + 16 ≤ length target → IsTarget (first_slot page) header old target
 first_target page header old target blank same spare room = record {
   above = subst (IsAbove target) (sym row) (above_blank target (length (page_of old page)) same);
   spare = spare ∙ ap (λ (bytes : List ℕ). with_header bytes 0 header) (ap (λ (n : ℕ). replicate (n - old.shape.main_bytes) 0) same ∙ sym zeros);
-  ungated = ap (λ (bytes : List ℕ). is_gate_charged bytes 0) zeros ∙ ap (λ (c : ℕ). c == 1) (no_charge (length (page_of old page) - old.shape.main_bytes) (128 * 0));
+  ungated = blank_page_ungated page old blank;
   room = omega (arith, length-drop old.shape.main_bytes (page_of old page));
   page_room = omega (arith, room);
 }
@@ -42,7 +51,7 @@ first_target page header old target blank same spare room = record {
     row = blank_row (page_of old page) blank
 
     zeros : spare_of old page ≡ replicate (length (page_of old page) - old.shape.main_bytes) 0
-    zeros = ap (drop old.shape.main_bytes) row ∙ drop-replicate old.shape.main_bytes (length (page_of old page)) 0
+    zeros = blank_spare page old blank
 
 -- main bytes that carry the sector
 pub put_first_ends : (meaning : Meaning) (page : ℕ) (header : Header) (sector : List ℕ) (old new : DieState) (target : List ℕ)

@@ -1,6 +1,6 @@
 -- What a put does to the records of a die, whatever its outcome.
-use Rattle.std.proofs.Common.{◌≡◌, ◌≢◌, ◌⊎◌, inl, inr, ℕ, ◌+◌, ◌-◌, ◌*◌, ◌^◌, ◌<◌, ◌≤◌, Bool, true, false, List, drop, length, ◌&&◌, slice_index, if◌then◌else◌, Some, None, refl, sym, ap, ap₂, ◌∙◌, arith, subst}
-use Rattle.std.proofs.lemmas.Bool.{cases_eq, cases_Bool, cond-true, lt-ltb}
+use Rattle.std.proofs.Common.{◌≡◌, ◌≢◌, ◌⊎◌, inl, inr, ℕ, ◌+◌, ◌*◌, ◌^◌, ◌<◌, ◌≤◌, Bool, true, false, List, drop, length, ◌&&◌, slice_index, if◌then◌else◌, Some, None, refl, sym, ap, ap₂, ◌∙◌, arith, subst}
+use Rattle.std.proofs.lemmas.Bool.{cases_eq, cond-true, lt-ltb}
 use Rattle.std.proofs.lemmas.Option.{same_Some}
 use Rattle.zero_count.specs.declared.Header.{Header}
 use Rattle.zero_count.specs.HeaderWord.{IsHeader, header_of, is_valid, spelling}
@@ -10,9 +10,9 @@ use Rattle.cell_die.specs.Cells.{page_at, IsAbove}
 use Rattle.cell_bits.proofs.Above.{keeps, above_bits, above_both}
 use Rattle.cell_bits.proofs.Slices.{above_drop, above_take, bytes_drop, bytes_take}
 use Rattle.spare_gate.specs.Slots.{is_gate_charged, is_seal_charged, word_at}
-use Rattle.spare_gate.proofs.Headers.{record_gate, record_gates, record_seal, record_word, record_words}
+use Rattle.spare_gate.proofs.Headers.{record_gates, record_seal, record_word, record_words}
 use Rattle.page_codec.specs.declared.place.Place.{Place}
-use Rattle.page_codec.specs.Geometry.{Geometry, page_count, block_of, spare_at}
+use Rattle.page_codec.specs.Geometry.{Geometry, block_of, spare_at}
 use Rattle.page_codec.specs.Records.{header_in, record_in, below_sectors, may_hold, is_copy, is_sealed, is_committed, if_committed, committed_in, live_record}
 use Rattle.spare_gate.specs.Slots.{with_record}
 use Rattle.page_codec.specs.Gate.{GateWins}

@@ -1,8 +1,8 @@
 -- What a put leaves, from what its last two change calls leave.
-use Rattle.std.proofs.Common.{◌≡◌, ◌≢◌, ◌⊎◌, inl, inr, ℕ, ◌+◌, ◌*◌, ◌/◌, ◌<◌, ◌≤◌, Bool, true, false, List, drop, take, length, replicate, ◌==◌, if◌then◌else◌, refl, sym, ap, ap₂, ◌∙◌, arith, subst}
+use Rattle.std.proofs.Common.{◌≡◌, ◌≢◌, ◌⊎◌, inl, inr, ℕ, ◌+◌, ◌*◌, ◌<◌, ◌≤◌, true, false, List, drop, length, ◌==◌, if◌then◌else◌, refl, sym, ap, ◌∙◌, arith, subst}
 use Rattle.std.proofs.lemmas.Bool.{cases_eq, cond-true, cond-false, eq-eqb, ne_eqb, false≢true}
 use Rattle.zero_count.specs.declared.Header.{Header}
-use Rattle.cell_die.specs.Cells.{IsAbove, is_charged, charge, with_charged}
+use Rattle.cell_die.specs.Cells.{IsAbove, charge, with_charged}
 use Rattle.cell_die.specs.declared.shape.Shape.{Shape}
 use Rattle.cell_die.specs.DieState.{DieState, page_of}
 use Rattle.cell_die.specs.Changes.{OnlyPage, IsBetween}
@@ -14,7 +14,6 @@ use Rattle.spare_gate.proofs.Gates.{gate_charges}
 use Rattle.spare_gate.proofs.Headers.{header_gates}
 use Rattle.cell_bits.proofs.Slices.{charge_spare}
 use Rattle.page_codec.specs.declared.place.Place.{Place}
-use Rattle.spare_gate.specs.Slots.{with_record}
 use Rattle.page_codec.specs.Puts.{Puts, spare_of, is_gated}
 
 -- The further pages of the unit were programmed: their cells are above the old ones, and no spare byte changed.

@@ -1,19 +1,22 @@
 -- What a put keeps of a device's records follows from what it leaves of the cells.
-use Rattle.std.proofs.Common.{◌≡◌, ℕ, ◌<◌, true, false, List, drop, refl, sym, ap, ◌∙◌, subst}
+use Rattle.std.proofs.Common.{◌≡◌, ℕ, false, List, drop, Result, Ok, Err, refl, sym, ap, ◌∙◌, subst}
 use Rattle.std.proofs.lemmas.Bool.{false≢true}
 use Rattle.zero_count.specs.declared.Header.{Header}
 use Rattle.zero_count.specs.HeaderWord.{IsHeader}
 use Rattle.cell_die.specs.declared.shape.Shape.{Shape}
 use Rattle.cell_die.specs.DieState.{DieState, IsShaped, page_of}
 use Rattle.cell_die.specs.Changes.{SameCells}
-use Rattle.cell_die.specs.Pads.{NoPadCharged}
 use Rattle.spare_gate.specs.Slots.{is_gate_charged}
 use Rattle.page_codec.specs.declared.place.Place.{Place}
 use Rattle.page_codec.specs.Geometry.{Geometry, shape_of, spare_at}
-use Rattle.page_codec.specs.Records.{live_record}
-use Rattle.page_codec.specs.Sound.{HeadersBelow, SeqsDiffer, SeqsBelow}
+use Rattle.wom_code.specs.declared.code.Carry.{Carry}
+use Rattle.wom_code.specs.declared.code.Carry.TheVariants.{Carried, Declined}
+use Rattle.striped.specs.Meaning.{Meaning}
+use Rattle.page_codec.specs.declared.fault.PutFault.{PutFault}
+use Rattle.page_codec.specs.declared.fault.PutFault.TheVariants.{Read, Change}
 use Rattle.page_codec.specs.Puts.{Puts, is_gated}
-use Rattle.page_codec.specs.Promises.{IsSlotOf, Keeps, KeepsRecords}
+use Rattle.page_codec.specs.Units.{SecondEnds}
+use Rattle.page_codec.specs.Promises.{Keeps, KeepsRecords}
 use Rattle.page_codec.proofs.PutLaws.{PutsCells, put_keeps_live, put_wins, put_keeps_headers, put_keeps_seqs, put_keeps_bound}
 use Rattle.page_codec.proofs.PutPads.{put_keeps_pads}
 use Rattle.page_codec.proofs.PutCells.{put_cells}
@@ -54,3 +57,11 @@ none_keeps g place h cells before = record {
 pub same_keeps : (place : Place) (h : Header) (old new : DieState) → SameCells old new → is_gated old place ≡ false → KeepsRecords place h old new
 same_keeps place h old new same before g s header =
     subst (λ (cells : List (List ℕ)). Keeps g place h old.cells cells) (sym same.cells) (none_keeps g place h old.cells (gate_before g place old s.shape before))
+
+-- a later write of a unit, however it ends
+pub second_keeps : (meaning : Meaning) (place : Place) (h : Header) (sector : List ℕ) (result : Result Carry PutFault) (old new : DieState) → SecondEnds meaning place h sector result old new
+    → new.shape ≡ old.shape → IsShaped old → IsShaped new → is_gated old place ≡ false → KeepsRecords place h old new
+second_keeps meaning place h sector (Ok Carried) old new ends same shaped shaped_new before = put_keeps place h old new ends.0 same shaped shaped_new before
+second_keeps meaning place h sector (Ok Declined) old new ends same shaped shaped_new before = same_keeps place h old new ends.0 before
+second_keeps meaning place h sector (Err Read) old new ends same shaped shaped_new before = same_keeps place h old new ends.0 before
+second_keeps meaning place h sector (Err Change) old new ends same shaped shaped_new before = put_keeps place h old new ends.0 same shaped shaped_new before

@@ -1,5 +1,5 @@
 -- A put over two pages: the second page is programmed first.
-use Rattle.std.proofs.Common.{◌≡◌, ◌≢◌, ◌⊎◌, inl, inr, ℕ, ◌+◌, ◌*◌, ◌<◌, ◌≤◌, Bool, true, false, List, drop, length, ◌==◌, if◌then◌else◌, refl, sym, ap, ◌∙◌, arith, subst}
+use Rattle.std.proofs.Common.{◌≡◌, ◌≢◌, ◌⊎◌, inl, inr, ℕ, ◌+◌, ◌*◌, ◌<◌, ◌≤◌, List, drop, ◌==◌, if◌then◌else◌, refl, sym, ap, ◌∙◌, arith, subst}
 use Rattle.std.proofs.lemmas.Bool.{cases_eq, cond-true, cond-false, eq-eqb, ne_eqb, false≢true}
 use Rattle.zero_count.specs.declared.Header.{Header}
 use Rattle.cell_die.specs.declared.shape.Shape.{Shape}
@@ -11,7 +11,7 @@ use Rattle.cell_die.proofs.CellLaws.{charge_above}
 use Rattle.spare_gate.specs.Slots.{is_gate_charged, gate_cell_of}
 use Rattle.cell_bits.proofs.Slices.{charge_spare}
 use Rattle.page_codec.specs.declared.place.Place.{Place}
-use Rattle.page_codec.specs.Puts.{Puts, spare_of, is_gated}
+use Rattle.page_codec.specs.Puts.{Puts, spare_of}
 use Rattle.page_codec.proofs.PutOne.{Midway, IsTarget}
 
 -- the second page was programmed

@@ -1,5 +1,5 @@
 -- What a later write of a unit leaves of its pages: other main bytes above the old ones, and a header in a blank slot.
-use Rattle.std.proofs.Common.{◌≡◌, ◌≢◌, ◌⊎◌, inl, inr, ℕ, ◌+◌, ◌-◌, ◌*◌, ◌/◌, ◌%◌, ◌<◌, ◌≤◌, Bool, true, false, List, [], ◌++◌, drop, take, length, ◌&&◌, ◌==◌, if◌then◌else◌, slice_index, refl, sym, ap, ap₂, ◌∙◌, arith, subst, length-take, length-drop}
+use Rattle.std.proofs.Common.{◌≡◌, ◌⊎◌, inl, inr, ℕ, ◌+◌, ◌-◌, ◌*◌, ◌/◌, ◌%◌, ◌<◌, ◌≤◌, true, false, List, ◌++◌, drop, take, length, ◌==◌, slice_index, refl, sym, ap, ap₂, ◌∙◌, arith, subst, length-drop}
 use Rattle.std.specs.Int.{bit_at}
 use Rattle.std.proofs.lemmas.Bool.{cases_lt, and_parts, eqb-true, cond-true, cond-false, eq-eqb, ne_eqb}
 use Rattle.std.proofs.lemmas.List.{take_at, drop_at, length-append, append-nil, get_or_append_left, get_or-append_right, take-append-drop}

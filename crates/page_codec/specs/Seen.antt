@@ -1,5 +1,5 @@
 -- What a scan of a page sees.
-use Rattle.std.specs.Prelude.{ℕ, Bool, true, false, List, drop, None, if◌then◌else◌, ◌==◌}
+use Rattle.std.specs.Prelude.{ℕ, true, false, List, drop, None, if◌then◌else◌, ◌==◌}
 use Rattle.cell_bits.specs.Cells.{is_blank}
 use Rattle.spare_gate.specs.Slots.{header_at, is_gate_charged, is_seal_charged, is_slot_blank}
 use Rattle.page_codec.specs.declared.seen.Seen.{Seen}

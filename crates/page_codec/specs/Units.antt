@@ -1,5 +1,5 @@
 -- The main bytes of the pages of a die, and how a later write of a unit ends.
-use Rattle.std.specs.Prelude.{◌≡◌, ℕ, ◌+◌, ◌*◌, List, ◌++◌, take, true, if◌then◌else◌, ◌==◌, Result, Ok, Err}
+use Rattle.std.specs.Prelude.{◌≡◌, ℕ, ◌+◌, List, ◌++◌, take, true, if◌then◌else◌, ◌==◌, Result, Ok, Err}
 use Rattle.std.specs.List.{flat_map, range_with_len}
 use Rattle.wom_code.specs.declared.code.Carry.{Carry}
 use Rattle.wom_code.specs.declared.code.Carry.TheVariants.{Carried, Declined}

@@ -6,6 +6,7 @@ ghost use Rattle.cell_die.specs.DieState.{page_count, page_of};
 ghost use Rattle.cell_die.specs.Calls.{Kept, Passed, ChangeFailed};
 ghost use Rattle.spare_gate.specs.Slots.{with_header};
 ghost use Rattle.page_codec.specs.Sizes.{Serves, ServesScheme};
+ghost use Rattle.page_codec.specs.Promises.{KeepsRecords};
 ghost use Rattle.page_codec.specs.Puts.{Puts, FirstCarries, first_slot, is_gated};
 
 use crate::gate::program_and_charge;
@@ -60,6 +61,7 @@ pub fn put_first<D: Die, C: Scheme>(
     requires sector { length sector.now ≡ (C.meaning scheme.old).sector_bytes }
     ensures put { Puts (FirstCarries (C.meaning scheme.old) page sector.now) 1 (first_slot page) header.now (D.state die.old) (D.state die.new) }
     ensures gated { OnOk result (is_gated (D.state die.new) (first_slot page) ≡ true) }
+    ensures records { KeepsRecords (first_slot page) header.now (D.state die.old) (D.state die.new) }
     ensures kept { Kept (D.state die.old) (D.state die.new) }
     ensures passed { OnOk result (Passed 2 0 (D.state die.old) (D.state die.new)) }
     ensures failed { OnErr result (ChangeFailed 2 0 (D.state die.old) (D.state die.new)) }

@@ -8,6 +8,7 @@ ghost use Rattle.cell_die.specs.Changes.{OnlyPage, IsBetween};
 ghost use Rattle.cell_die.specs.Calls.{Kept, Passed, ChangeFailed};
 ghost use Rattle.spare_gate.specs.Slots.{with_header, is_slot_blank, gate_cell_of};
 ghost use Rattle.page_codec.specs.Sizes.{Serves, ServesScheme};
+ghost use Rattle.page_codec.specs.Promises.{KeepsRecords};
 ghost use Rattle.page_codec.specs.Puts.{Puts, spare_of, is_gated};
 ghost use Rattle.page_codec.specs.Units.{main_of, unit_main, place_of, with_write, HasMain, SecondEnds};
 
@@ -240,6 +241,7 @@ pub fn put_second<D: Die, C: Scheme>(
     requires kind { header.now.kind ≡ 1 }
     requires sector { length sector.now ≡ (C.meaning scheme.old).sector_bytes }
     ensures ends { SecondEnds (C.meaning scheme.old) (place_of page slot) header.now sector.now result (D.state die.old) (D.state die.new) }
+    ensures records { KeepsRecords (place_of page slot) header.now (D.state die.old) (D.state die.new) }
     ensures kept { Kept (D.state die.old) (D.state die.new) }
     ensures same_scheme { C.meaning scheme.new ≡ C.meaning scheme.old }
     ensures same_work { work.new ≡ work.old }

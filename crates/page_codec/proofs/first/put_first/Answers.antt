@@ -1,8 +1,10 @@
 -- The buffer has the first write of the page, and the two change calls leave it or a part of it.
-use Rattle.std.proofs.Common.{rules, ◌≡◌, ◌-◌, ◌+◌, ◌*◌, ◌≤◌, ℕ, List, true, take, drop, length, replicate, sym, ap, ap₂, ◌∙◌, arith, subst}
+use Rattle.std.proofs.Common.{rules, ◌≡◌, ◌*◌, ℕ, length, ap, ◌∙◌, arith}
 use Rattle.std.proofs.lemmas.List.{take_at}
-use Rattle.cell_die.specs.DieState.{page_of, page_bytes, IsShaped}
-use Rattle.page_codec.proofs.PutFirst.{IsFirstWrite, first_write_puts, first_write_gated, reaches_any, on_ok}
+use Rattle.cell_die.specs.DieState.{IsShaped}
+use Rattle.page_codec.specs.Puts.{first_slot}
+use Rattle.page_codec.proofs.PutPromises.{put_keeps}
+use Rattle.page_codec.proofs.PutFirst.{blank_page_ungated, IsFirstWrite, first_write_puts, first_write_gated, reaches_any, on_ok}
 use Rattle.page_codec.proofs.first.put_first.Goals as goal
 
 pub returns-clause-put : goal.returns-clause-put
@@ -44,3 +46,8 @@ returns-clause-gated g c =
     (first_write_gated c.args.page c.args.header.now (g.D.Die.state c.args.die.now) (g.D.Die.state c.program_and_charge.new.die) c.write_first.new.page c.deref.result.now
     c.work.inside.page_bytes (length c.deref_mut.result.now) c.gate_cell.result written same c.gate_cell.ensures c.program_and_charge.ensures.kept.shape)
     c.program_and_charge.ensures.done
+
+pub returns-clause-records : goal.returns-clause-records
+returns-clause-records g c =
+    put_keeps (first_slot c.args.page) c.args.header.now (g.D.Die.state c.args.die.now) (g.D.Die.state c.program_and_charge.new.die) (returns-clause-put g c) c.program_and_charge.ensures.kept.shape
+    (g.met.D.Die.shaped c.args.die.now) (g.met.D.Die.shaped c.program_and_charge.new.die) (blank_page_ungated c.args.page (g.D.Die.state c.args.die.now) c.requires.blank)

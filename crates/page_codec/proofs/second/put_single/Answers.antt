@@ -1,5 +1,4 @@
 -- A unit of one page is that page.
-use Rattle.std.proofs.Common.{◌≡◌}
 use Rattle.cell_die.specs.DieState.{IsShaped}
 use Rattle.page_codec.specs.Units.{place_of}
 use Rattle.page_codec.proofs.PutFirst.{reaches_any, on_ok}
