@@ -1,5 +1,5 @@
 -- A decimal parses to its number, and another text is printed back as another.
-use Rattle.std.proofs.Common.{◌≡◌, true, false, Ok, Some, None, Option, ℕ, arith, sym, ap, ◌∙◌}
+use Rattle.std.proofs.Common.{◌≡◌, true, false, Some, sym, ap, ◌∙◌}
 use Rattle.std.specs.Prelude.{decimal}
 use Rattle.std.specs.Cmp.Lexicographic.{bytes_decides}
 use Rattle.std.proofs.lemmas.Fmt.{parse-decimal}

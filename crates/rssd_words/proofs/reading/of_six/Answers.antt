@@ -1,7 +1,5 @@
 -- What six words spell has a head, which the last five spell.
-use Rattle.std.proofs.Common.{◌≡◌, ℕ, List, [], ◌∷◌, Some, None, ap, sym, ◌∙◌}
-use Rattle.std.specs.Prelude.{IfSome}
-use Rattle.rssd_words.specs.Commands.{head_words, words_of, IsWithin}
+use Rattle.std.proofs.Common.{ℕ, List, ◌∷◌, ap, sym, ◌∙◌}
 use Rattle.rssd_words.proofs.Six.{six_head}
 use Rattle.rssd_words.proofs.reading.of_six.Goals as goal
 

@@ -1,12 +1,8 @@
 -- Each word is a name or a number within its limit, or no head within limits has these words.
-use Rattle.std.proofs.Common.{◌≡◌, true, false, ◌<◌, ◌^◌, ℕ, List, [], ◌∷◌, Some, None, Option, sym, ap, ◌∙◌, arith}
-use Rattle.std.specs.Prelude.{decimal}
-use Rattle.die_image.specs.declared.head.ImageHead.{ImageHead}
-use Rattle.die_image.specs.declared.scheme.SchemeName.{SchemeName}
+use Rattle.std.proofs.Common.{◌≡◌, true, false, [], ◌∷◌, Some, None, sym, ap, ◌∙◌}
 use Rattle.die_image.specs.Schemes.{row_of, scheme_of_name}
 use Rattle.die_image.specs.Image.{is_within_limits}
 use Rattle.die_image.proofs.Again.{are_words}
-use Rattle.rssd_words.specs.Commands.{head_words}
 use Rattle.rssd_words.proofs.Names.{name_again, name_found}
 use Rattle.rssd_words.proofs.reading.read_head.Goals as goal
 

@@ -1,5 +1,5 @@
 -- Each line that is drawn is the next one.
-use Rattle.std.proofs.Common.{◌≡◌, ◌+◌, ◌-◌, [], ◌∷◌, ◌++◌, ap, sym, ◌∙◌, arith}
+use Rattle.std.proofs.Common.{◌+◌, ◌-◌, [], ◌∷◌, ◌++◌, ap, sym, ◌∙◌, arith}
 use Rattle.rssd_work.specs.Workload.{workload_from}
 use Rattle.rssd_work.proofs.Drawn.{one_more_line, all_lines}
 use Rattle.rssd_work.proofs.workload.make.Goals as goal
