@@ -1,3 +1,4 @@
+-- What callers see of a basis.
 use Rattle.std.specs.Prelude.{ℕ, List}
 
 -- the vectors taken, in order, and the tag of each

@@ -1,3 +1,4 @@
+-- What an offer answers.
 use Rattle.std.specs.Prelude.{◌≡◌, ℕ, [], ◌∷◌, ◌++◌, length}
 use Rattle.gf2_solve.specs.declared.Offered.{Offered}
 use Rattle.gf2_solve.specs.declared.Offered.TheVariants.{Taken, Spanned}

@@ -1,3 +1,4 @@
+-- Each step adds a row to the rest and its set to the set, and the highest bit falls.
 use Rattle.std.proofs.Common.{rules, ◌≡◌, ℕ, ◌^◌, ◌<◌, List, length, get_or, bit_xor, ◌∙◌, ap, refl, arith}
 use Rattle.std.specs.Int.Bits.{xor_self, xor_zero_r, xor_lt}
 use Rattle.std.proofs.lemmas.Nat.{pow_pos}

@@ -1,3 +1,4 @@
+-- Rows and sets of zeros are as in a new basis; the old vectors are out of use.
 use Rattle.std.proofs.Common.{rules, ◌≡◌, vec_len, replicate, ◌∙◌, ap, arith}
 use Rattle.gf2_solve.proofs.BasisLemmas.{empty_basis}
 use Rattle.gf2_solve.proofs.Basis.clear.Goals as goal

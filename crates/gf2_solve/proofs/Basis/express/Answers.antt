@@ -1,3 +1,4 @@
+-- What the rows clear is spanned, and what is spanned the rows clear.
 use Rattle.std.proofs.Common.{refl, subst, arith}
 use Rattle.gf2_solve.specs.Family.{Family}
 use Rattle.gf2_solve.specs.Span.{IsSpanned}

@@ -1,3 +1,4 @@
+-- Rows of zeros clear nothing, and there is no vector to be cleared.
 use Rattle.std.proofs.Common.{rules, arith}
 use Rattle.gf2_solve.proofs.BasisLemmas.{empty_basis}
 use Rattle.gf2_solve.proofs.Basis.new.Goals as goal

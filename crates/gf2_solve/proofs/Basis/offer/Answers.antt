@@ -1,3 +1,4 @@
+-- A rest that is not zero is no sum of the vectors, and as a row it clears the new one.
 use Rattle.std.proofs.Common.{rules, ◌<◌, refl, subst, arith}
 use Rattle.gf2_solve.specs.Family.{Family}
 use Rattle.gf2_solve.specs.Span.{IsSpanned}
