@@ -194,7 +194,14 @@ fn a_replay_answers_its_script(rt: HostRuntime) -> Result<(), Fail> {
 #[test]
 fn a_script_of_more_than_a_mebibyte_is_too_long(rt: HostRuntime) -> Result<(), Fail> {
     let script = vec![in rt.alloc(); b'\n'; 1_048_577]?;
-    let (status, text) = answers(rt.alloc(), &rt, "replay plain16 4 2 3 1", &script, &[999], 64);
+    let (status, text) = answers(
+        rt.alloc(),
+        &rt,
+        "replay plain16 4 2 3 1",
+        &script,
+        &[999],
+        64,
+    );
     assert_eq!(rt; (status, text.as_str()), (3, "script too long\n"));
     Ok(())
 }
