@@ -2,4 +2,3 @@ pub mod Zeros
 pub mod MoreLines
 pub mod OneLine
 pub mod Limits
-pub mod Saying

@@ -1,5 +1,5 @@
 -- The texts of answers.
-use Rattle.std.specs.Prelude.{ℕ, ◌++◌, ◌&&◌, ◌==◌, List, [], ◌∷◌, Bool, true, false, if◌then◌else◌, codes}
+use Rattle.std.specs.Prelude.{ℕ, ◌&&◌, ◌==◌, List, [], ◌∷◌, Bool, true, false, if◌then◌else◌, codes}
 use Rattle.std.specs.List.{flat_map}
 use Rattle.rssd_script.specs.Replies.{reply_line}
 use Rattle.rssd_run.specs.declared.answer.Answer.{Answer}

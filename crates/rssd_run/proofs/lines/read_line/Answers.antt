@@ -1,7 +1,6 @@
 -- A text without line feeds is a script of one line, or its one line is bad.
-use Rattle.std.proofs.Common.{◌≡◌, ◌∷◌, ◌<◌, [], length, arith, rules}
+use Rattle.std.proofs.Common.{◌≡◌, ◌<◌, length, rules}
 use Rattle.std.proofs.lemmas.List.{nil_from_length}
-use Rattle.rssd_script.specs.Script.{text_lines}
 use Rattle.rssd_script.proofs.Cuts.{text_lines-last, empty_spells_none}
 use Rattle.rssd_run.proofs.OneLine.{one_spelled, one_read, one_bad}
 use Rattle.rssd_run.proofs.lines.read_line.Goals as goal

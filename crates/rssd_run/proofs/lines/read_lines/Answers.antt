@@ -1,5 +1,5 @@
 -- Each turn takes one line off the text, and the first that is not taken is the bad one.
-use Rattle.std.proofs.Common.{◌≡◌, ◌≤◌, ◌+◌, ◌++◌, ◌∷◌, [], length, ap, sym, ◌∙◌, append_assoc, arith, rules}
+use Rattle.std.proofs.Common.{◌≡◌, ◌≤◌, ◌++◌, ◌∷◌, [], length, ap, sym, ◌∙◌, append_assoc, arith, rules}
 use Rattle.std.proofs.lemmas.List.{nil_from_length, append-nil, length-append}
 use Rattle.std.proofs.lemmas.List.Elements.{All-push}
 use Rattle.rssd_script.specs.Script.{text_lines}

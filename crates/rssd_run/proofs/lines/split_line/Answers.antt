@@ -1,5 +1,5 @@
 -- The line ends at the first line feed, or with the text.
-use Rattle.std.proofs.Common.{◌≡◌, ◌+◌, ◌∷◌, [], length, take, drop, ap, ◌∙◌, arith, sym}
+use Rattle.std.proofs.Common.{◌+◌, ◌∷◌, length, ap, ◌∙◌, arith, sym}
 use Rattle.std.proofs.lemmas.Grind.{common_steps}
 use Rattle.std.proofs.lemmas.List.{take_rest, drop_all}
 use Rattle.rssd_script.specs.Script.{text_lines}

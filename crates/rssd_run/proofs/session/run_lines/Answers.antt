@@ -1,5 +1,5 @@
 -- What was given are the texts of the answers to the lines that were passed.
-use Rattle.std.proofs.Common.{◌≡◌, ◌+◌, ◌<◌, ◌++◌, ◌∷◌, [], length, take, drop, min, get_or, ◌∙◌, sym, ap, arith, Result, Ok, Err, OnErr}
+use Rattle.std.proofs.Common.{◌≡◌, ◌+◌, ◌++◌, ◌∷◌, [], length, take, drop, min, ◌∙◌, sym, ap, arith, Result, Ok, Err, OnErr}
 use Rattle.std.proofs.lemmas.List.{take_more, drop_more, take-append-drop}
 use Rattle.std.specs.Io.KnownBytes.{Appends}
 use Rattle.rssd_io.proofs.Appending.{appends_more}

@@ -1,4 +1,4 @@
-use Rattle.std.proofs.Common.{◌≡◌, ◌≤◌, take}
+use Rattle.std.proofs.Common.{◌≡◌, take}
 use Rattle.std.specs.Io.KnownBytes.{Appends}
 use Rattle.rssd_run.specs.Array.{after_all, answers_to}
 use Rattle.rssd_run.specs.Answers.{answer_lines}

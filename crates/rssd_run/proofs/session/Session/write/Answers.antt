@@ -1,7 +1,7 @@
 -- The three answers of the device are the three cases of the array.
-use Rattle.std.proofs.Common.{◌≡◌, ◌≤◌, ◌-◌, ◌<◌, length, ◌∙◌, sym, ap, arith, refl, rules}
+use Rattle.std.proofs.Common.{◌≡◌, ◌≤◌, ◌<◌, length, ◌∙◌, sym, ap, arith, rules}
 use Rattle.cell_die.specs.DieState.{page_count}
-use Rattle.rssd_run.specs.Array.{after, answer_to}
+use Rattle.rssd_run.specs.Array.{answer_to}
 use Rattle.rssd_run.specs.Running.{array_of}
 use Rattle.rssd_script.specs.declared.lines.Line.TheVariants.{Write}
 use Rattle.rssd_run.proofs.MoreLines.{write_placed, write_full, write_range}
