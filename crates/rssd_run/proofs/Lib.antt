@@ -1,0 +1,5 @@
+pub mod Zeros
+pub mod MoreLines
+pub mod OneLine
+pub mod Limits
+pub mod Saying
