@@ -1,5 +1,5 @@
 -- A die in memory whose erases go bad, as contracts see it.
-use Rattle.std.specs.Prelude.{◌≡◌, ℕ, ◌-◌, ◌==◌, ◌||◌, List, [], ◌∷◌, Bool, true, false, Option, None, slice_index_or, slice_set, if◌then◌else◌}
+use Rattle.std.specs.Prelude.{◌≡◌, ℕ, ◌-◌, ◌==◌, ◌||◌, [], ◌∷◌, Bool, false, None, slice_index_or, if◌then◌else◌}
 use Rattle.cell_die.specs.DieState.{DieState, IsShaped}
 use Rattle.mem_die.specs.declared.worn.WornMem.{WornMem}
 use Rattle.mem_die.specs.MemState.{mem_state, mem_shaped}

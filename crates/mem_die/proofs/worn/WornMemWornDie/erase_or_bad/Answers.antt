@@ -1,5 +1,5 @@
 -- Each page of a block that is erased in part lies below the page that it was.
-use Rattle.std.proofs.Common.{◌≡◌, ◌+◌, ◌*◌, ◌<◌, ◌≤◌, arith}
+use Rattle.std.proofs.Common.{◌+◌, ◌*◌, ◌<◌, ◌≤◌, arith}
 use Rattle.std.proofs.Math.Nat.{mul-le-mul_right}
 use Rattle.cell_die.specs.DieState.{page_of, page_count, page_bytes}
 use Rattle.cell_die.specs.declared.shape.Torn.TheVariants.{Mask}
