@@ -1,0 +1,11 @@
+pub mod Gate
+pub mod Geometry
+pub mod Promises
+pub mod Puts
+pub mod Records
+pub mod Sectors
+pub mod Seen
+pub mod Sizes
+pub mod Sound
+pub mod TrueBook
+pub mod Units
