@@ -1,16 +1,14 @@
 -- What an image says is the head and the cells that it was made of.
-use Rattle.std.proofs.Common.{◌≡◌, ℕ, ◌+◌, ◌-◌, ◌*◌, ◌^◌, ◌&&◌, ◌<◌, ◌≤◌, Bool, true, false, List, [], ◌∷◌, ◌++◌, length, take, drop, ◌==◌, nat_lt, nat_le, Option, Some, None, Result, Ok, Err, refl, sym, ap, ◌∙◌, append_assoc, inl, inr, arith}
+use Rattle.std.proofs.Common.{◌≡◌, ℕ, ◌+◌, ◌-◌, ◌*◌, ◌^◌, ◌&&◌, ◌<◌, ◌≤◌, Bool, true, false, List, [], ◌++◌, length, drop, ◌==◌, nat_lt, nat_le, Some, Ok, refl, ap, ◌∙◌, append_assoc, arith}
 use Rattle.std.proofs.Math.Nat.{mul-le-mul}
-use Rattle.std.proofs.lemmas.Bool.{le-ltb, lt-ltb, eq-eqb, leb-true, and_parts}
-use Rattle.std.proofs.lemmas.List.{length-append, drop_at}
+use Rattle.std.proofs.lemmas.Bool.{le-ltb, eq-eqb, leb-true, and_parts}
+use Rattle.std.proofs.lemmas.List.{length-append}
 use Rattle.byteorder.specs.Numbers.{little_number-reads_back}
 use Rattle.die_image.specs.declared.head.ImageHead.{ImageHead}
 use Rattle.die_image.specs.declared.scheme.SchemeName.{SchemeName}
 use Rattle.die_image.specs.declared.scheme.SchemeName.TheVariants.{Plain16, Rs16, Rs512, Coset16, Coset512, Flip16, Flip512, Ham16, Ham512}
-use Rattle.die_image.specs.declared.error.ImageError.{ImageError}
 use Rattle.die_image.specs.Schemes.{row_of, scheme_of_number}
-use Rattle.die_image.specs.Pads.{is_pad_charged}
-use Rattle.die_image.specs.Image.{shape_of, die_bytes, is_within_limits, half, word, first_bytes, image, old_image, version_number, head_length, AreCells, AreOldCells, half_at, word_at, has_magic, has_slots, head_with, head_of_scheme, good_head, head_read, cells_read, image_read}
+use Rattle.die_image.specs.Image.{die_bytes, is_within_limits, half, word, first_bytes, image, old_image, version_number, head_length, AreCells, AreOldCells, half_at, word_at, has_magic, has_slots, head_read, image_read}
 
 -- the numbers of a head within limits have four bytes
 pub record AreWords (head : ImageHead) : Type 0 where

@@ -1,14 +1,12 @@
 -- The image of what an image says is that image.
-use Rattle.std.proofs.Common.{◌≡◌, ℕ, zero, suc, ◌+◌, ◌&&◌, ◌*◌, ◌^◌, ◌<◌, ◌≤◌, Bool, true, false, not, cond, List, [], ◌∷◌, ◌++◌, length, take, drop, get_or, nat_eq, ◌==◌, nat_lt, codes, Option, Some, None, Result, Ok, Err, refl, sym, ap, subst, ◌∙◌, append_assoc, inl, inr, arith}
-use Rattle.std.specs.Cmp.Lexicographic.{pointwise, bytes_decides}
-use Rattle.std.specs.Int.{w16, w32, to_le_bytes}
+use Rattle.std.proofs.Common.{◌≡◌, ℕ, zero, suc, ◌+◌, ◌&&◌, ◌<◌, ◌≤◌, Bool, true, false, not, cond, List, [], ◌∷◌, ◌++◌, length, take, drop, get_or, ◌==◌, nat_lt, codes, Option, Some, None, Result, Ok, Err, refl, sym, ap, subst, ◌∙◌, append_assoc, arith}
+use Rattle.std.specs.Cmp.Lexicographic.{bytes_decides}
 use Rattle.std.proofs.lemmas.Bool.{ltb-false, eqb-true, not-false, and_parts}
-use Rattle.std.proofs.lemmas.List.{length-append, length-drop, drop-drop, take-append-drop, get_or-drop, get_or_past}
+use Rattle.std.proofs.lemmas.List.{length-drop, drop-drop, take-append-drop, get_or-drop, get_or_past}
 use Rattle.std.proofs.lemmas.Nat.{le_bytes_2, le_bytes_4}
 use Rattle.byteorder.specs.Endian.{little_number, little_bytes}
 use Rattle.die_image.specs.declared.head.ImageHead.{ImageHead}
 use Rattle.die_image.specs.declared.scheme.SchemeName.{SchemeName}
-use Rattle.die_image.specs.declared.scheme.SchemeName.TheVariants.{Plain16, Rs16, Rs512, Coset16, Coset512, Flip16, Flip512, Ham16, Ham512}
 use Rattle.die_image.specs.declared.error.ImageError.{ImageError}
 use Rattle.die_image.specs.declared.error.ImageError.TheVariants as errors
 use Rattle.die_image.specs.Schemes.{row_of, scheme_of_number}

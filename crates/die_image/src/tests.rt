@@ -103,7 +103,10 @@ fn an_old_image_is_read_in_pieces(rt: HostRuntime) -> Result<(), Fail> {
     assert_eq!(rt; reader.wants(), 28);
     reader.feed(&OLD_HEAD)?;
     assert_eq!(rt; reader.wants(), 225);
-    reader.feed(blank(rt.alloc(), b"", 224)?.as_slice())?;
+    let cells = blank(rt.alloc(), b"", 224)?;
+    let piece = cells.as_slice();
+    assert!(rt; piece.len() as u64 <= reader.wants());
+    reader.feed(piece)?;
     assert!(rt; reader.end().is_ok());
     Ok(())
 }

@@ -1,8 +1,7 @@
 //! The two tables against a search over all words, and the worked words.
 
-use wom_code::{Carry, WomCode};
-
 use crate::HammingSeven;
+use wom_code::{Carry, WomCode};
 
 /// The cells of a word, cell 0 first.
 fn cells_of(word: u8) -> [bool; 7] {

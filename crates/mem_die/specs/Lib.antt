@@ -6,3 +6,4 @@ pub mod Supply
 pub mod MemState
 pub mod Limits
 pub mod MemoryDie
+pub mod WornState

@@ -6,5 +6,7 @@ mod blend;
 mod mem;
 mod rows;
 mod supply;
+mod worn;
 
 pub use mem::{DieRefusal, MemDie};
+pub use worn::{OutOfMemory, WornMem};

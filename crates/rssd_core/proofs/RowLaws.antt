@@ -1,5 +1,5 @@
 -- The sectors of a device after a write.
-use Rattle.std.proofs.Common.{◌≡◌, ◌≢◌, ℕ, ◌<◌, zero, suc, List, [], ◌∷◌, ◌++◌, length, Option, None, Some, map, take, set, replicate, refl, arith, ◌∙◌, sym, ap}
+use Rattle.std.proofs.Common.{◌≡◌, ◌≢◌, ℕ, ◌<◌, zero, suc, List, [], ◌∷◌, ◌++◌, length, Option, None, Some, take, set, replicate, refl, arith, ◌∙◌, ap}
 use Rattle.std.proofs.lemmas.List.{map-set, take-set, take_at}
 use Rattle.cell_die.specs.Cells.{page_at}
 use Rattle.rssd_core.specs.Rows.{row_of, rows_of, written_page}

@@ -1,9 +1,9 @@
 -- A device as contracts see it.
-use Rattle.std.specs.Prelude.{◌≡◌, ℕ, ◌-◌, ◌*◌, ◌^◌, ◌<◌, ◌≤◌, List, Bool, true, false, Option, None, Some, length, slice_index_or}
+use Rattle.std.specs.Prelude.{◌≡◌, ℕ, ◌-◌, ◌*◌, ◌^◌, ◌<◌, ◌≤◌, List, Bool, false, Option, None, Some, length, slice_index_or}
 use Rattle.cell_die.specs.Cells.{blank_page}
 use Rattle.cell_die.specs.declared.shape.Shape.{Shape}
 use Rattle.rssd_core.specs.declared.ftl.Plan.{Plan}
-use Rattle.cell_die.specs.DieState.{DieState, IsShaped, page_of, page_count, page_bytes}
+use Rattle.cell_die.specs.DieState.{DieState, page_of, page_count, page_bytes}
 
 -- a device: its die, its sectors, the number of its pages in use, and whether it is stopped
 pub record Device : Type 0 where

@@ -1,14 +1,14 @@
 -- Where the chunks of a sector stand, and what a write of one changes.
-use Rattle.std.proofs.Common.{◌≡◌, ◌≢◌, ℕ, zero, suc, ◌+◌, ◌-◌, ◌*◌, ◌/◌, ◌%◌, ◌^◌, ◌<◌, ◌≤◌, ◌⊎◌, min, Bool, true, false, List, length, get_or, nat_eq, ◌==◌, sym, ◌∙◌, ap, ap₂, subst, refl, inl, inr, arith, eq-eqb}
+use Rattle.std.proofs.Common.{◌≡◌, ℕ, ◌+◌, ◌-◌, ◌*◌, ◌/◌, ◌%◌, ◌<◌, ◌≤◌, ◌⊎◌, Bool, true, false, List, length, get_or, ◌==◌, sym, ◌∙◌, ap, ap₂, subst, inl, inr, arith, eq-eqb}
 use Rattle.std.specs.Int.{div_ceil}
-use Rattle.std.proofs.lemmas.Bool.{cases_lt, eqb-true, false≢true}
+use Rattle.std.proofs.lemmas.Bool.{cases_lt, eqb-true}
 use Rattle.std.proofs.lemmas.List.{ext_get_or}
 use Rattle.std.proofs.lemmas.List.FromFn.{length-map-range_with_len, get_or-map-range_with_len}
 use Rattle.std.proofs.lemmas.Nat.{row_fits, div-add-mod', div-mul-add, mod-mul-add, mod_below}
 use Rattle.cell_bits.specs.Cells.{charge_at, is_charged, IsAbove}
 use Rattle.cell_bits.proofs.Above.{above_from}
 use Rattle.wom_code.specs.Cells.{cell_at, Carries, NoneCarries}
-use Rattle.wom_code.specs.Packed.{word_bit, cells_of, IsRow}
+use Rattle.wom_code.specs.Packed.{word_bit, cells_of}
 use Rattle.wom_code.proofs.PackedLemmas.{get_or-cells_of, same_cells}
 use Rattle.striped.specs.Striping.{Striping, chunks, page_bytes, chunk_cells, chunk_message}
 use Rattle.striped.specs.Carried.{get_or-chunk_message}

@@ -1,9 +1,9 @@
 -- Steps of the loops that take cells into words and put them back.
-use Rattle.std.proofs.Common.{◌≡◌, ◌≢◌, ℕ, zero, suc, ◌+◌, ◌-◌, ◌*◌, ◌/◌, ◌%◌, ◌^◌, ◌<◌, ◌≤◌, ◌⊎◌, max, List, length, slice_index, slice_set, bit_and, bit_or, sym, ◌∙◌, ap, ap₂, subst, refl, inl, inr, arith, get_or-set_same, get_or-set_other}
+use Rattle.std.proofs.Common.{◌≡◌, ℕ, ◌+◌, ◌-◌, ◌*◌, ◌/◌, ◌%◌, ◌^◌, ◌<◌, ◌≤◌, ◌⊎◌, max, List, length, slice_index, slice_set, bit_and, bit_or, sym, ◌∙◌, ap, ap₂, subst, inl, inr, arith}
 use Rattle.std.specs.Int.{bit_at}
 use Rattle.std.proofs.lemmas.Bool.{cases_eq, cases_lt}
-use Rattle.std.proofs.lemmas.Nat.{shl_whole, div-mul-add, mod-mul-add, div_below}
-use Rattle.std.proofs.lemmas.Nat.Bits.{bit_at_or, bit_at-lt, bit_at_above, bit_at-zero}
+use Rattle.std.proofs.lemmas.Nat.{shl_whole, div-mul-add, mod-mul-add}
+use Rattle.std.proofs.lemmas.Nat.Bits.{bit_at_or, bit_at_above, bit_at-zero}
 use Rattle.std.proofs.lemmas.List.{get_or_past}
 use Rattle.cell_bits.specs.Cells.{charge_at}
 use Rattle.cell_bits.proofs.PieceLemmas.{bit_at_shl, bit_at_shl_below, piece_bit}

@@ -1,12 +1,12 @@
 -- From chunks to whole units.
-use Rattle.std.proofs.Common.{◌≡◌, ℕ, ◌<◌, ◌≤◌, ◌+◌, ◌*◌, ◌/◌, ◌%◌, Bool, true, false, List, length, get_or, replicate, ◌==◌, sym, ◌∙◌, ap, ap₂, subst, refl, inl, inr, arith}
+use Rattle.std.proofs.Common.{◌≡◌, ℕ, ◌<◌, ◌≤◌, ◌+◌, ◌*◌, ◌/◌, ◌%◌, Bool, true, false, List, length, replicate, sym, ◌∙◌, ap, ap₂, subst, inl, inr, arith}
 use Rattle.std.proofs.lemmas.Bool.{cases_lt, false≢true}
 use Rattle.std.specs.Int.{bit_at}
 use Rattle.std.proofs.lemmas.List.{get_or_past, get_or-replicate, length-replicate}
 use Rattle.std.proofs.lemmas.Nat.Bits.{bit_at-zero}
 use Rattle.cell_bits.specs.Cells.{charge_at, is_charged, IsAbove}
 use Rattle.cell_bits.proofs.Above.{keeps}
-use Rattle.wom_code.specs.Cells.{cell_at, Carries, NoneCarries}
+use Rattle.wom_code.specs.Cells.{cell_at, NoneCarries}
 use Rattle.striped.specs.Striping.{Striping, striping, page_bytes, chunks, chunk_cells, chunk_message, IsCarried, carries}
 use Rattle.striped.specs.Layouts.{meaning_of}
 use Rattle.striped.proofs.ChunkLemmas.{length-chunk_cells, get_or-chunk_cells, length-chunk_message, place}

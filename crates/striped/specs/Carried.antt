@@ -1,7 +1,7 @@
 -- Cells that carry a sector decode to it.
 use Rattle.std.specs.Prelude.{◌≡◌, ℕ, ◌+◌, ◌*◌, ◌/◌, ◌%◌, ◌^◌, ◌<◌, ◌≤◌, Bool, true, false, List, [], ◌∷◌, length, map, ◌==◌, slice_index, refl}
 use Rattle.std.specs.Int.{bit_at, div_ceil}
-use Rattle.std.specs.List.{list_all, range_with_len}
+use Rattle.std.specs.List.{range_with_len}
 use Rattle.std.specs.Cmp.Lexicographic.{pointwise}
 use mathlib.Core.Bool.{beq}
 use Rattle.std.proofs.Common.{zero, suc, get_or, sym, ◌∙◌, ap, ap₂, subst, inl, inr, arith, eq-eqb}

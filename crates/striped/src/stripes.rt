@@ -64,10 +64,8 @@ impl<
         sector_bytes: u32,
     ) -> Result<Striped<F, S, K, M, N>, OutOfMemory>
         requires { IsFitting K M N sector_bytes }
-        ensures {
-            let given = meaning_of K M N sector_bytes 2 (F.decoding first) (S.decoding second) in
-            IfOk result (λ s. meaning_of K M N s.sector_bytes s.generations (F.decoding s.first) (S.decoding s.second) ≡ given)
-        }
+        ensures { let given = meaning_of K M N sector_bytes 2 (F.decoding first) (S.decoding second) in
+            IfOk result (λ s. meaning_of K M N s.sector_bytes s.generations (F.decoding s.first) (S.decoding s.second) ≡ given) }
     {
         Self::with_generations(alloc, first, second, sector_bytes, 2)
     }
@@ -83,10 +81,8 @@ impl<
         requires fitting { IsFitting K M N sector_bytes }
         requires at_least_two { 2 ≤ generations }
         requires at_most_three { generations ≤ 3 }
-        ensures {
-            let given = meaning_of K M N sector_bytes generations (F.decoding first) (S.decoding second) in
-            IfOk result (λ s. meaning_of K M N s.sector_bytes s.generations (F.decoding s.first) (S.decoding s.second) ≡ given)
-        }
+        ensures { let given = meaning_of K M N sector_bytes generations (F.decoding first) (S.decoding second) in
+            IfOk result (λ s. meaning_of K M N s.sector_bytes s.generations (F.decoding s.first) (S.decoding s.second) ≡ given) }
     {
         let layout = layout_of(K, M, N, sector_bytes);
         let unit = vec![in alloc; 0; layout.span * layout.page_bytes]?;

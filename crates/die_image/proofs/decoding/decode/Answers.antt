@@ -1,5 +1,5 @@
 -- What is read has this image, and what has this image is read: two laws on lists.
-use Rattle.std.proofs.Common.{◌≡◌, ℕ, false, List, Result, Ok, Err, ap, subst, ◌∙◌, arith}
+use Rattle.std.proofs.Common.{ℕ, false, List, Result, ap, subst, ◌∙◌, arith}
 use Rattle.die_image.specs.declared.head.ImageHead.{ImageHead}
 use Rattle.die_image.specs.declared.error.ImageError.{ImageError}
 use Rattle.die_image.specs.Image.{image_read, Gives}

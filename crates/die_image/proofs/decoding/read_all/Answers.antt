@@ -1,8 +1,8 @@
 -- Bytes past those that the reader wants change nothing.
-use Rattle.std.proofs.Common.{◌≡◌, List, ℕ, Result, subst, sym, ◌∙◌}
+use Rattle.std.proofs.Common.{◌≡◌, List, ℕ, Result, subst}
 use Rattle.die_image.specs.declared.head.ImageHead.{ImageHead}
 use Rattle.die_image.specs.declared.error.ImageError.{ImageError}
-use Rattle.die_image.specs.Image.{end_read, image_read, Says, Gives}
+use Rattle.die_image.specs.Image.{end_read, image_read, Says}
 use Rattle.die_image.proofs.Heads.{fed_all, gives_from_says}
 use Rattle.die_image.proofs.decoding.read_all.Goals as goal
 

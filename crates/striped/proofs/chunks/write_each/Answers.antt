@@ -1,11 +1,7 @@
 -- One more chunk: the earlier ones keep their cells, and the later ones still have the old cells.
-use Rattle.std.proofs.Common.{◌≡◌, ℕ, ◌+◌, ◌*◌, ◌<◌, ◌≤◌, ◌⊎◌, Bool, List, true, length, sym, ◌∙◌, ap, subst, refl, inl, inr, arith}
-use Rattle.std.proofs.lemmas.Bool.{cases_lt}
-use Rattle.std.proofs.lemmas.Nat.{row_fits}
-use Rattle.cell_bits.specs.Cells.{charge_at, IsAbove}
+use Rattle.std.proofs.Common.{◌≡◌, ℕ, ◌+◌, ◌*◌, ◌<◌, ◌≤◌, length, ◌∙◌, refl, inr, arith}
 use Rattle.cell_bits.proofs.Above.{above_trans}
-use Rattle.wom_code.specs.Cells.{cell_at}
-use Rattle.wom_code.specs.Packed.{cells_of, word_bit}
+use Rattle.wom_code.specs.Packed.{cells_of}
 use Rattle.striped.specs.Striping.{Striping, striping, chunks, page_bytes, chunk_cells, chunk_message}
 use Rattle.striped.proofs.ChunkLemmas.{start_below, chunk_within, chunk_is, message_is, chunk_stays, IsWrite, write_above, none_carries, carried_more}
 use Rattle.striped.proofs.chunks.write_each.Goals as goal

@@ -1,3 +1,4 @@
+-- Each charged cell has its bit, and the bits past the cells are still blank.
 use Rattle.std.proofs.Common.{length, sym, refl, arith}
 use Rattle.wom_code.proofs.PackedLemmas.{same_cells}
 use Rattle.wom_code.proofs.words.pack.Goals as goal

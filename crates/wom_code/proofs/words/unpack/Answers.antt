@@ -1,3 +1,4 @@
+-- Each cell that was written is the bit of its number.
 use Rattle.std.proofs.Common.{length, arith}
 use Rattle.wom_code.proofs.PackedLemmas.{same_cells}
 use Rattle.wom_code.proofs.words.unpack.Goals as goal

@@ -1,7 +1,6 @@
 -- The end reads the head in the first bytes, and then the cells behind them.
-use Rattle.std.proofs.Common.{◌≡◌, Err, Ok, refl, sym, ◌∙◌, ap, arith}
+use Rattle.std.proofs.Common.{refl}
 use Rattle.std.proofs.lemmas.Result.{err_from_is_err_and}
-use Rattle.die_image.specs.Image.{end_read, cells_after}
 use Rattle.die_image.proofs.Heads.{end_of_parts}
 use Rattle.die_image.proofs.reader.ImageReader.end.Goals as goal
 

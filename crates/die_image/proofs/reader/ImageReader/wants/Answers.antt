@@ -1,5 +1,5 @@
 -- What is missing of the head, or what is missing of the cells and one byte more.
-use Rattle.std.proofs.Common.{refl, sym, ◌∙◌, ap, arith}
+use Rattle.std.proofs.Common.{refl, sym, arith}
 use Rattle.die_image.proofs.Heads.{wanted_failed, wanted_of_head, wanted_of_cells}
 use Rattle.die_image.proofs.reader.ImageReader.wants.Goals as goal
 

@@ -1,5 +1,5 @@
 -- A name that is none of the nine is found in no row.
-use Rattle.std.proofs.Common.{◌≡◌, ℕ, Bool, true, false, List, None, nat_eq, refl, sym, arith}
+use Rattle.std.proofs.Common.{refl}
 use Rattle.die_image.specs.Schemes.{row_of, scheme_of_name}
 use Rattle.die_image.proofs.Texts.{other_text}
 use Rattle.die_image.proofs.scheme.SchemeName.of_name.Goals as goal

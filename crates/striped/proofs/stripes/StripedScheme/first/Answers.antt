@@ -1,5 +1,5 @@
 -- The first code takes every message over blank cells, so the chunks of a blank page are never declined.
-use Rattle.std.proofs.Common.{ℕ, ◌≤◌, ◌≡◌, ◌*◌, ◌==◌, List, length, replicate, ◌∙◌, sym, ap, ap₂, refl, subst, arith}
+use Rattle.std.proofs.Common.{ℕ, ◌≤◌, ◌≡◌, ◌*◌, ◌==◌, List, length, ◌∙◌, sym, ap, ap₂, refl, subst, arith}
 use Rattle.cell_bits.specs.Cells.{charge_at}
 use Rattle.striped.specs.Striping.{striping, page_bytes, chunks}
 use Rattle.striped.proofs.LayoutLemmas.{fits_page, one_page_bytes}

@@ -1,0 +1,11 @@
+pub mod BitSumLemmas
+pub mod ChangeOfBasis
+pub mod ChargeLemmas
+pub mod ChargeSetLemmas
+pub mod CoordinateLemmas
+pub mod MessageLemmas
+pub mod NoneOver
+pub mod OfferLemmas
+pub mod OverLemmas
+pub mod SumLemmas
+pub mod WordLemmas

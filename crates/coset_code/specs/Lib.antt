@@ -1,0 +1,6 @@
+pub mod Code
+pub mod Coordinates
+pub mod Refusal
+pub mod Solution
+pub mod Sums
+pub mod Words

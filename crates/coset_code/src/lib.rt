@@ -1,0 +1,14 @@
+//! Coset codes: the message is the sum over GF(2) of the columns of the charged cells.
+#![tactic(auto)]
+
+mod coordinates;
+mod coset;
+mod laws;
+mod message;
+mod solve;
+
+pub use coset::{Columns, Coset, CosetRefusal, OutOfMemory};
+pub use laws::basis_solution_is_unique;
+
+#[cfg(test)]
+mod tests;

@@ -1,0 +1,38 @@
+//! The program: its words, standard input and output, and the files `die.img` and `die.new` of the current folder go to the
+//! top call, and the status that it answers is the program's.
+#![tactic(auto)]
+
+use rssd_io::{FileSink, FileSource, StdSink, StdSource};
+use rssd_run::rssd;
+use std::process::ExitCode;
+use std::{env, io};
+
+/// The status for want of memory.
+const OUT_OF_MEMORY: u8 = 7;
+
+/// The words of the command line, without the program's name.
+fn words(rt: &HostRuntime) -> io::Result<Vec<String>> {
+    let mut words = Vec::new(rt.alloc());
+    for word in env::args(rt)?.skip(1) {
+        words.push(word)?;
+    }
+    Ok(words)
+}
+
+fn main(rt: HostRuntime) -> ExitCode {
+    let Ok(words) = words(&rt) else {
+        return ExitCode::from(OUT_OF_MEMORY);
+    };
+    let mut image = FileSource::new(&rt, "die.img");
+    let mut script = StdSource::new(rt.stdin());
+    let mut out = StdSink::new(rt.stdout());
+    let mut image_out = FileSink::new(&rt, "die.new");
+    ExitCode::from(rssd(
+        rt.alloc(),
+        &words,
+        &mut image,
+        &mut script,
+        &mut out,
+        &mut image_out,
+    ))
+}

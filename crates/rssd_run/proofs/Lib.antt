@@ -1,0 +1,4 @@
+pub mod Zeros
+pub mod MoreLines
+pub mod OneLine
+pub mod Limits

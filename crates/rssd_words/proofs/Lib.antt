@@ -1,0 +1,4 @@
+pub mod Names
+pub mod HeadCommands
+pub mod Six
+pub mod Eight

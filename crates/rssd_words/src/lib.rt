@@ -1,0 +1,12 @@
+//! The words of the command line: each command has one spelling, and None comes where the words are no command's.
+#![tactic(auto)]
+
+mod command;
+mod numbers;
+mod reading;
+
+pub use command::Command;
+pub use reading::read_words;
+
+#[cfg(test)]
+mod tests;

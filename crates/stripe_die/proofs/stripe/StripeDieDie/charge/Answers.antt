@@ -1,0 +1,113 @@
+-- The cell is charged in the die where its page stands, and the other die stays as it was.
+use Rattle.std.proofs.Common.{sym}
+use Rattle.stripe_die.proofs.Halves.{Halves, Steps, steps_first, steps_second, kept_pair, first_page, second_page, first_page_after, second_page_after, first_inside, second_inside, only_at_first, only_at_second, only_page_pair}
+use Rattle.stripe_die.proofs.stripe.StripeDieDie.charge.Goals as goal
+
+pub charge-requires-clause-page : goal.charge-requires-clause-page
+charge-requires-clause-page g c =
+    let halves : Halves (g.A.Die.state c.args.self.now.a) (g.B.Die.state c.args.self.now.b) = record {
+      same = c.args.self.now.same_shape;
+      first = g.met.A.Die.shaped c.args.self.now.a;
+      second = g.met.B.Die.shaped c.args.self.now.b;
+    } in
+    first_inside c.args.page halves (sym c.in-First.ensures) c.requires.page
+
+pub returns-in-First-clause-charged : goal.returns-in-First-clause-charged
+returns-in-First-clause-charged g c =
+    let halves : Halves (g.A.Die.state c.args.self.now.a) (g.B.Die.state c.args.self.now.b) = record {
+      same = c.args.self.now.same_shape;
+      first = g.met.A.Die.shaped c.args.self.now.a;
+      second = g.met.B.Die.shaped c.args.self.now.b;
+    } in
+    let steps : Steps (g.A.Die.state c.args.self.now.a) (g.B.Die.state c.args.self.now.b) (g.A.Die.state c.charge.new.self) (g.B.Die.state c.args.self.now.b)
+    = steps_first halves (g.met.A.Die.shaped c.charge.new.self) c.charge.ensures.kept in
+    rw (first_page c.args.page halves (sym c.in-First.ensures), first_page_after c.args.page steps (sym c.in-First.ensures)) c.charge.ensures.charged
+
+pub returns-in-First-clause-charged_or_not : goal.returns-in-First-clause-charged_or_not
+returns-in-First-clause-charged_or_not g c =
+    let halves : Halves (g.A.Die.state c.args.self.now.a) (g.B.Die.state c.args.self.now.b) = record {
+      same = c.args.self.now.same_shape;
+      first = g.met.A.Die.shaped c.args.self.now.a;
+      second = g.met.B.Die.shaped c.args.self.now.b;
+    } in
+    let steps : Steps (g.A.Die.state c.args.self.now.a) (g.B.Die.state c.args.self.now.b) (g.A.Die.state c.charge.new.self) (g.B.Die.state c.args.self.now.b)
+    = steps_first halves (g.met.A.Die.shaped c.charge.new.self) c.charge.ensures.kept in
+    rw (first_page c.args.page halves (sym c.in-First.ensures), first_page_after c.args.page steps (sym c.in-First.ensures)) c.charge.ensures.charged_or_not
+
+pub returns-in-First-clause-only_page : goal.returns-in-First-clause-only_page
+returns-in-First-clause-only_page g c =
+    let halves : Halves (g.A.Die.state c.args.self.now.a) (g.B.Die.state c.args.self.now.b) = record {
+      same = c.args.self.now.same_shape;
+      first = g.met.A.Die.shaped c.args.self.now.a;
+      second = g.met.B.Die.shaped c.args.self.now.b;
+    } in
+    let steps : Steps (g.A.Die.state c.args.self.now.a) (g.B.Die.state c.args.self.now.b) (g.A.Die.state c.charge.new.self) (g.B.Die.state c.args.self.now.b)
+    = steps_first halves (g.met.A.Die.shaped c.charge.new.self) c.charge.ensures.kept in
+    only_page_pair c.args.page steps (only_at_first (g.A.Die.state c.args.self.now.a) (g.B.Die.state c.args.self.now.b) (g.A.Die.state c.charge.new.self) (sym c.in-First.ensures) c.charge.ensures.only_page)
+
+pub returns-in-First-clause-kept : goal.returns-in-First-clause-kept
+returns-in-First-clause-kept g c =
+    let halves : Halves (g.A.Die.state c.args.self.now.a) (g.B.Die.state c.args.self.now.b) = record {
+      same = c.args.self.now.same_shape;
+      first = g.met.A.Die.shaped c.args.self.now.a;
+      second = g.met.B.Die.shaped c.args.self.now.b;
+    } in
+    let steps : Steps (g.A.Die.state c.args.self.now.a) (g.B.Die.state c.args.self.now.b) (g.A.Die.state c.charge.new.self) (g.B.Die.state c.args.self.now.b)
+    = steps_first halves (g.met.A.Die.shaped c.charge.new.self) c.charge.ensures.kept in
+    kept_pair steps
+
+pub charge-requires-in-Second-clause-page : goal.charge-requires-in-Second-clause-page
+charge-requires-in-Second-clause-page g c =
+    let halves : Halves (g.A.Die.state c.args.self.now.a) (g.B.Die.state c.args.self.now.b) = record {
+      same = c.args.self.now.same_shape;
+      first = g.met.A.Die.shaped c.args.self.now.a;
+      second = g.met.B.Die.shaped c.args.self.now.b;
+    } in
+    second_inside c.args.page halves (sym c.in-Second.ensures) c.requires.page
+
+pub charge-requires-in-Second-clause-cell : goal.charge-requires-in-Second-clause-cell
+charge-requires-in-Second-clause-cell g c = rw c.args.self.now.same_shape c.requires.cell
+
+pub returns-in-Second-clause-charged : goal.returns-in-Second-clause-charged
+returns-in-Second-clause-charged g c =
+    let halves : Halves (g.A.Die.state c.args.self.now.a) (g.B.Die.state c.args.self.now.b) = record {
+      same = c.args.self.now.same_shape;
+      first = g.met.A.Die.shaped c.args.self.now.a;
+      second = g.met.B.Die.shaped c.args.self.now.b;
+    } in
+    let steps : Steps (g.A.Die.state c.args.self.now.a) (g.B.Die.state c.args.self.now.b) (g.A.Die.state c.args.self.now.a) (g.B.Die.state c.charge-in-Second.new.self)
+    = steps_second halves (g.met.B.Die.shaped c.charge-in-Second.new.self) c.charge-in-Second.ensures.kept in
+    rw (second_page c.args.page halves (sym c.in-Second.ensures), second_page_after c.args.page steps (sym c.in-Second.ensures)) c.charge-in-Second.ensures.charged
+
+pub returns-in-Second-clause-charged_or_not : goal.returns-in-Second-clause-charged_or_not
+returns-in-Second-clause-charged_or_not g c =
+    let halves : Halves (g.A.Die.state c.args.self.now.a) (g.B.Die.state c.args.self.now.b) = record {
+      same = c.args.self.now.same_shape;
+      first = g.met.A.Die.shaped c.args.self.now.a;
+      second = g.met.B.Die.shaped c.args.self.now.b;
+    } in
+    let steps : Steps (g.A.Die.state c.args.self.now.a) (g.B.Die.state c.args.self.now.b) (g.A.Die.state c.args.self.now.a) (g.B.Die.state c.charge-in-Second.new.self)
+    = steps_second halves (g.met.B.Die.shaped c.charge-in-Second.new.self) c.charge-in-Second.ensures.kept in
+    rw (second_page c.args.page halves (sym c.in-Second.ensures), second_page_after c.args.page steps (sym c.in-Second.ensures)) c.charge-in-Second.ensures.charged_or_not
+
+pub returns-in-Second-clause-only_page : goal.returns-in-Second-clause-only_page
+returns-in-Second-clause-only_page g c =
+    let halves : Halves (g.A.Die.state c.args.self.now.a) (g.B.Die.state c.args.self.now.b) = record {
+      same = c.args.self.now.same_shape;
+      first = g.met.A.Die.shaped c.args.self.now.a;
+      second = g.met.B.Die.shaped c.args.self.now.b;
+    } in
+    let steps : Steps (g.A.Die.state c.args.self.now.a) (g.B.Die.state c.args.self.now.b) (g.A.Die.state c.args.self.now.a) (g.B.Die.state c.charge-in-Second.new.self)
+    = steps_second halves (g.met.B.Die.shaped c.charge-in-Second.new.self) c.charge-in-Second.ensures.kept in
+    only_page_pair c.args.page steps (only_at_second (g.A.Die.state c.args.self.now.a) (g.B.Die.state c.args.self.now.b) (g.B.Die.state c.charge-in-Second.new.self) (sym c.in-Second.ensures) c.charge-in-Second.ensures.only_page)
+
+pub returns-in-Second-clause-kept : goal.returns-in-Second-clause-kept
+returns-in-Second-clause-kept g c =
+    let halves : Halves (g.A.Die.state c.args.self.now.a) (g.B.Die.state c.args.self.now.b) = record {
+      same = c.args.self.now.same_shape;
+      first = g.met.A.Die.shaped c.args.self.now.a;
+      second = g.met.B.Die.shaped c.args.self.now.b;
+    } in
+    let steps : Steps (g.A.Die.state c.args.self.now.a) (g.B.Die.state c.args.self.now.b) (g.A.Die.state c.args.self.now.a) (g.B.Die.state c.charge-in-Second.new.self)
+    = steps_second halves (g.met.B.Die.shaped c.charge-in-Second.new.self) c.charge-in-Second.ensures.kept in
+    kept_pair steps
