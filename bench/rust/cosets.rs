@@ -97,8 +97,9 @@ fn over_words(columns: &[u128], old: &[u64], message: u128, out: &mut [u64]) -> 
 
 #[inline(never)]
 fn charge_at_random(random: &mut SplitMix64, one_in: u64, cells: &mut [bool], row: &mut [u64]) {
+    let limit = u64::MAX / one_in;
     for cell in cells.iter_mut() {
-        *cell = random.next_word() % one_in == 0;
+        *cell = random.next_word() < limit;
     }
     row.fill(0);
     for (cell, charged) in cells.iter().enumerate() {

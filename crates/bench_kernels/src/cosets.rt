@@ -27,8 +27,9 @@ fn charge_at_random(random: &mut SplitMix64, one_in: u64, cells: &mut [bool], ro
     requires row { length row.old ≡ words_for (length cells.old) }
     ensures { IsRow (length cells.old) row.new }
 {
+    let limit = u64::MAX / one_in;
     for cell in cells.iter_mut() {
-        *cell = random.next_word() % one_in == 0;
+        *cell = random.next_word() < limit;
     }
     pack(cells, row);
 }
