@@ -16,9 +16,31 @@ fn read_in_two(alloc: Global, front: &[u8], back: &[u8]) -> Result<Vec<Line>, Fa
 
 #[test]
 fn a_script_is_the_same_wherever_it_is_cut(rt: HostRuntime) -> Result<(), Fail> {
-    for cut in 0..KINDS.len() {
-        let lines = read_in_two(rt.alloc(), &KINDS[..cut], &KINDS[cut..])?;
-        assert_eq!(rt; lines.len(), 11, "cut at {cut}");
+    for (text, lines) in [
+        (KINDS, 11),
+        (b"write 0 a5\nread 0\n".as_slice(), 2),
+        (
+            b"write 0 01\nwrite 0 02\nwrite 0 03\nwrite 0 04\nread 0\nstat\n",
+            6,
+        ),
+        (
+            b"write 0 a5\nwrite 1 01\nmount\nread 0\nwrite 0 5a\nmount\nread 0\nread 1\n",
+            8,
+        ),
+        (
+            b"write 0 01\ncut 1 mask:0000000000000004\nwrite 0 02\nmount\nread 0\nstat\n",
+            6,
+        ),
+        (
+            b"write 0 11\ncut 3 all\nwrite 0 33\nmount\ntrim 0\nidle 4\nread 0\nstat",
+            8,
+        ),
+        (b"", 0),
+    ] {
+        for cut in 0..=text.len() {
+            let read = read_in_two(rt.alloc(), &text[..cut], &text[cut..])?;
+            assert_eq!(rt; read.len(), lines, "cut at {cut}");
+        }
     }
     Ok(())
 }
