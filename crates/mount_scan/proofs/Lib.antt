@@ -1,0 +1,10 @@
+pub mod Newer
+pub mod Reading
+pub mod Naming
+pub mod Taken
+pub mod Shown
+pub mod Pages
+pub mod AllSlots
+pub mod Settling
+pub mod Fresh
+pub mod MountedBook

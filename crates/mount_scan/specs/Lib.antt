@@ -1,0 +1,4 @@
+pub mod Mounted
+pub mod New
+pub mod Noted
+pub mod Settled
