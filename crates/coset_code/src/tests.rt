@@ -58,10 +58,11 @@ fn is_as_by_trying_all<const K: usize, const N: usize>(
     ones: u64,
 ) -> Result<(), Fail> {
     let mut random = SplitMix64::seed_from_u64(seed);
-    let mut table = [0u128; N];
-    for column in table.iter_mut() {
-        *column = (random.next_word() & ones) as u128;
+    let mut table = Vec::new(alloc);
+    for _ in 0..N {
+        table.push((random.next_word() & ones) as u128)?;
     }
+    assert!(rt; table.len() < 100);
     let mut sums = Vec::new(alloc);
     for word in 0..words {
         sums.push(sum_of(&table, word))?;
@@ -127,10 +128,10 @@ fn blank_cells_take_zeros_and_full_cells_one_message(rt: HostRuntime) -> Result<
         Carry::Carried
     );
     assert_eq!(rt; out.as_slice(), [false; 288].as_slice());
-    let mut declined = 0;
+    let mut declined = 0u32;
     for message in 0..256usize {
         if code.over(&[true; 288], &cells_of::<128>(message), &mut out) == Carry::Declined {
-            declined += 1;
+            declined = declined.saturating_add(1);
         }
     }
     assert!(rt; declined >= 255);
