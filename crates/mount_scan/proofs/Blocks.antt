@@ -1,5 +1,5 @@
 -- A page more is read into the tables, and then a block more.
-use Rattle.std.proofs.Common.{◌≡◌, ◌≢◌, ◌⊎◌, inl, inr, ℕ, suc, ◌+◌, ◌*◌, ◌/◌, ◌%◌, ◌<◌, ◌≤◌, Bool, true, List, [], ◌∷◌, ◌++◌, length, ◌&&◌, ◌==◌, nat_lt, if◌then◌else◌, refl, sym, ap, ◌∙◌, subst, arith, get_or-set_same, get_or-set_other}
+use Rattle.std.proofs.Common.{◌≡◌, ◌⊎◌, inl, inr, ℕ, suc, ◌+◌, ◌*◌, ◌/◌, ◌%◌, ◌<◌, ◌≤◌, Bool, List, [], ◌∷◌, ◌++◌, length, ◌&&◌, ◌==◌, nat_lt, if◌then◌else◌, sym, ap, ◌∙◌, subst, arith, get_or-set_same, get_or-set_other}
 use Rattle.std.specs.Prelude.{slice_index, slice_index_or, slice_set}
 use Rattle.std.specs.List.{count_by, flat_map, range_with_len}
 use Rattle.std.proofs.lemmas.Bool.{cases_eq, cases_lt, eq-eqb, ne_eqb, cond-true, cond-false}
@@ -19,7 +19,7 @@ use Rattle.page_codec.specs.declared.seen.Seen.{Seen}
 use Rattle.page_codec.specs.Seen.{seen_page}
 use Rattle.page_codec.specs.TrueBook.{HasSizes}
 use Rattle.page_codec.specs.Sizes.{Sizes, Serves}
-use Rattle.page_codec.specs.Geometry.{Geometry, HasShape, shape_of, page_count, block_of, is_unit_page, units}
+use Rattle.page_codec.specs.Geometry.{Geometry, HasShape, shape_of, page_count, units}
 use Rattle.page_codec.specs.Records.{is_sealed}
 use Rattle.mount_scan.specs.declared.sight.Sight.{Sight}
 use Rattle.mount_scan.specs.declared.tables.Tables.{Tables}
@@ -27,7 +27,7 @@ use Rattle.mount_scan.specs.Mounted.{IsFound}
 use Rattle.mount_scan.specs.New.{IsNew}
 use Rattle.mount_scan.specs.Noted.{is_entry_in, IsReading, MoreAt, SameBlocks, Scanned, ScansPage, ShowsPage, slots_of}
 use Rattle.mount_scan.specs.Settled.{MayBeFound, AllFound}
-use Rattle.mount_scan.specs.Scanned.{Fits, ReadInto, ReadOn, Shows, ShowsOn, geometry_of, slots_below}
+use Rattle.mount_scan.specs.Scanned.{ReadInto, ReadOn, Shows, ShowsOn, geometry_of, slots_below}
 use Rattle.mount_scan.specs.Sight.{sight_with}
 use Rattle.mount_scan.proofs.Settling.{range_last}
 use Rattle.mount_scan.proofs.Sights.{shows_more}

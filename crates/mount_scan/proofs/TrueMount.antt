@@ -1,22 +1,18 @@
 -- The book of the mount rule is true to the cells, and stays so while blocks are recycled.
-use Rattle.std.proofs.Common.{◌≡◌, ◌≢◌, ◌⊎◌, inl, inr, ℕ, ◌+◌, ◌*◌, ◌-◌, ◌^◌, ◌<◌, ◌≤◌, Bool, true, false, List, length, Option, Some, None, refl, sym, ap, ◌∙◌, subst, arith}
+use Rattle.std.proofs.Common.{◌≡◌, inl, inr, ℕ, ◌+◌, ◌*◌, ◌-◌, ◌^◌, ◌<◌, ◌≤◌, false, List, length, Some, None, refl, sym, ap, ◌∙◌, subst, arith}
 use Rattle.std.proofs.lemmas.Bool.{cases_eq, cases_lt, false≢true}
 use Rattle.std.proofs.lemmas.List.{get_or_past}
-use Rattle.zero_count.specs.declared.Header.{Header}
-use Rattle.cell_die.specs.declared.shape.Shape.{Shape}
-use Rattle.sector_map.specs.declared.entry.Entry.{Entry}
 use Rattle.block_state.specs.declared.state.State.{State}
 use Rattle.block_state.specs.declared.state.State.TheVariants.{Clean, Active, Used, Recycled, Reused, Spare}
 use Rattle.block_state.specs.State.{is_spare}
 use Rattle.block_state.specs.Book.{BookValue, HasOneSpare, IsSpare, IsValid, state_at}
 use Rattle.reuse_pool.specs.Recycling.{Recycles}
-use Rattle.page_codec.specs.declared.place.Place.{Place}
 use Rattle.page_codec.specs.Geometry.{Geometry, HasShape, shape_of, units}
-use Rattle.page_codec.specs.Records.{header_in, places}
+use Rattle.page_codec.specs.Records.{places}
 use Rattle.page_codec.specs.TrueBook.{IsNextSeq, IsTrue, IsTrueBook, IsTrueState, live_map}
 use Rattle.mount_scan.specs.declared.tables.Tables.{Tables}
-use Rattle.mount_scan.specs.Mounted.{IsFound, IsMounted, IsMountedSeq, seq_after}
-use Rattle.mount_scan.specs.Scanned.{EveryBlockLive, Mounts, ReadInto, slots_below}
+use Rattle.mount_scan.specs.Mounted.{IsFound, IsMounted, IsMountedSeq}
+use Rattle.mount_scan.specs.Scanned.{EveryBlockLive, AreMounted, ReadInto, slots_below}
 use Rattle.mount_scan.specs.Noted.{Scanned}
 use Rattle.mount_scan.specs.Settled.{IsLastFree, Settles}
 use Rattle.mount_scan.proofs.AllSlots.{lives_are_live, map_is_live, seq_is_mounted}
@@ -80,9 +76,9 @@ module _ (g : Geometry) (cells : List (List ℕ)) (book : BookValue) (is : IsMou
 -- ---- the tables
 
 -- Where all pages are read and some block is free, the settled book and then a run of the recycling rule are those of a mount.
-pub tables_mount : (g : Geometry) (cells : List (List ℕ)) (few spare : ℕ) (old mid new : Tables) → HasShape (shape_of g) cells → 0 < units g → ReadInto g cells g.blocks 0 old
-    → IsLastFree old.book (length old.book.states) (Some spare) → Settles spare old mid → IsValid mid.book → Recycles few mid.book new.book → new.map ≡ mid.map → new.seq ≡ mid.seq → Mounts g few cells new
-tables_mount g cells few spare old mid new shape some read free settles valid run same_map same_seq = record {
+pub tables_are_mounted : (g : Geometry) (cells : List (List ℕ)) (few spare : ℕ) (old mid new : Tables) → HasShape (shape_of g) cells → 0 < units g → ReadInto g cells g.blocks 0 old
+    → IsLastFree old.book (length old.book.states) (Some spare) → Settles spare old mid → IsValid mid.book → Recycles few mid.book new.book → new.map ≡ mid.map → new.seq ≡ mid.seq → AreMounted g few cells new
+tables_are_mounted g cells few spare old mid new shape some read free settles valid run same_map same_seq = record {
   found = mid.book;
   mounted = mounted;
   recycled = run;

@@ -1,7 +1,6 @@
 -- A run of the recycling rule keeps a true book true: a due block becomes Recycled, one level higher, where the slots above its old
 -- level are blank and no live record stands.
-use Rattle.std.proofs.Common.{◌≡◌, ◌≢◌, inl, inr, ℕ, ◌+◌, ◌<◌, ◌≤◌, Bool, true, false, cond, List, length, get_or, ◌*◌, ◌==◌, if◌then◌else◌, Option, Some, refl, sym, ap, ◌∙◌, subst, arith, get_or-set_same, get_or-set_other}
-use Rattle.std.specs.Prelude.{slice_set}
+use Rattle.std.proofs.Common.{◌≡◌, ◌≢◌, inl, inr, ℕ, ◌+◌, ◌<◌, ◌≤◌, true, cond, List, length, get_or, if◌then◌else◌, Option, Some, refl, sym, ap, ◌∙◌, subst, arith, get_or-set_same, get_or-set_other}
 use Rattle.std.specs.List.{count_by, range_with_len}
 use Rattle.std.proofs.lemmas.Bool.{cases_eq, eq-eqb, false≢true}
 use Rattle.std.proofs.lemmas.List.{length-set}
@@ -11,10 +10,10 @@ use Rattle.sector_map.specs.declared.entry.Entry.{Entry}
 use Rattle.block_state.specs.declared.state.State.{State}
 use Rattle.block_state.specs.declared.state.State.TheVariants.{Clean, Active, Used, Recycled, Reused, Spare}
 use Rattle.block_state.specs.State.{is_closed, is_active, is_spare, InRange}
-use Rattle.block_state.specs.Book.{BookValue, HasOneSpare, IsActive, IsSpare, IsValid, state_at, live_at, with_state, reordered}
+use Rattle.block_state.specs.Book.{BookValue, HasOneSpare, IsValid, state_at, with_state, reordered}
 use Rattle.reuse_pool.specs.Offer.{is_recycled}
-use Rattle.reuse_pool.specs.Recycling.{IsDue, Recycles, is_used, recycled, recycled_count}
-use Rattle.reuse_pool.proofs.Steps.{due_within, kept_by_run, settled_by_run, closed_due}
+use Rattle.reuse_pool.specs.Recycling.{IsDue, Recycles, is_used, recycled}
+use Rattle.reuse_pool.proofs.Steps.{due_within, kept_by_run, settled_by_run}
 use Rattle.page_codec.specs.Geometry.{Geometry, block_of, units}
 use Rattle.page_codec.specs.Records.{Placed, live_record}
 use Rattle.page_codec.specs.Sound.{stands_in, live_count}

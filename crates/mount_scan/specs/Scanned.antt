@@ -1,5 +1,5 @@
 -- What a mount has read: the pages of a die in order, up to some page.
-use Rattle.std.specs.Prelude.{◌≡◌, ◌⊎◌, ℕ, ◌+◌, ◌*◌, ◌<◌, ◌≤◌, Bool, List, length, slice_index_or}
+use Rattle.std.specs.Prelude.{◌≡◌, ◌⊎◌, ℕ, ◌+◌, ◌*◌, ◌<◌, ◌≤◌, List, length, slice_index_or}
 use Rattle.std.specs.List.{flat_map, range_with_len, list_all}
 use Rattle.cell_die.specs.declared.shape.Shape.{Shape}
 use Rattle.cell_die.specs.Cells.{page_at, is_blank}
@@ -11,7 +11,7 @@ use Rattle.block_state.specs.Book.{BookValue, live_at}
 use Rattle.reuse_pool.specs.Recycling.{Recycles}
 use Rattle.page_codec.specs.declared.place.Place.{Place}
 use Rattle.page_codec.specs.Sizes.{Sizes}
-use Rattle.page_codec.specs.Geometry.{Geometry, page_count, units, unit_page}
+use Rattle.page_codec.specs.Geometry.{Geometry, page_count, units}
 use Rattle.page_codec.specs.Records.{is_sealed}
 use Rattle.page_codec.specs.Sound.{live_count}
 use Rattle.page_codec.specs.TrueBook.{HasSizes, IsTrueBook, UnitSlotBlank}
@@ -85,7 +85,7 @@ abbrev pub EveryBlockLive : Geometry → List (List ℕ) → Type 0
 EveryBlockLive g cells = (block : ℕ) → block < g.blocks → 0 < live_count g cells block
 
 -- The tables of a mount: those of the mount rule, and then a run of the recycling rule. They are true to the cells.
-pub record Mounts (g : Geometry) (reuse_max : ℕ) (cells : List (List ℕ)) (tables : Tables) : Type 0 where
+pub record AreMounted (g : Geometry) (reuse_max : ℕ) (cells : List (List ℕ)) (tables : Tables) : Type 0 where
   pub found : BookValue
   pub mounted : IsMounted g cells found
   pub recycled : Recycles reuse_max found tables.book
@@ -93,6 +93,6 @@ pub record Mounts (g : Geometry) (reuse_max : ℕ) (cells : List (List ℕ)) (ta
   pub true_book : IsTrueBook g reuse_max cells tables.book tables.map tables.seq
 
 -- why a die was not mounted: every block has a live record and all pages were read, or a read failed
-abbrev pub Refuses : Geometry → DieState → DieState → ScanRefusal → Type 0
-Refuses g old new NoSpare = EveryBlockLive g old.cells × Reads (page_count g) old new
-Refuses g old new DieFault = FailsToRead (page_count g) old new
+abbrev pub ScanRefused : Geometry → DieState → DieState → ScanRefusal → Type 0
+ScanRefused g old new NoSpare = EveryBlockLive g old.cells × Reads (page_count g) old new
+ScanRefused g old new DieFault = FailsToRead (page_count g) old new

@@ -7,7 +7,7 @@ ghost use Rattle.page_codec.specs.Geometry.{Geometry, HasShape, shape_of, units}
 ghost use Rattle.mount_scan.specs.New.{IsNew};
 ghost use Rattle.mount_scan.specs.Noted.{IsReading};
 ghost use Rattle.mount_scan.specs.Settled.{AllFound, IsLastFree};
-ghost use Rattle.mount_scan.specs.Scanned.{geometry_of, FailsToRead, Mounts, ReadInto, ReadOn, Reads, Refuses};
+ghost use Rattle.mount_scan.specs.Scanned.{geometry_of, FailsToRead, AreMounted, ReadInto, ReadOn, Reads, ScanRefused};
 
 use crate::block::read_block;
 use crate::settle::settle;
@@ -47,7 +47,7 @@ fn finish(tables: &mut Tables, spare: u32, reuse_max: u32)
     requires reading { IsReading tables.old }
     requires found { AllFound tables.old.book.generations tables.old.found.items }
     ensures { (g : Geometry) (cells : List (List ℕ)) → HasShape (shape_of g) cells → 0 < units g → ReadInto g cells g.blocks 0 tables.old
-        → IsLastFree tables.old.book (length tables.old.book.states) (Some spare) → Mounts g reuse_max cells tables.new }
+        → IsLastFree tables.old.book (length tables.old.book.states) (Some spare) → AreMounted g reuse_max cells tables.new }
 {
     settle(tables, spare);
     let _blocks = tables.book.blocks();
@@ -65,9 +65,9 @@ pub fn scan_all<D: Die>(
 ) -> Result<(), ScanRefusal>
     requires work { Serves work.old (D.state die.old).shape }
     requires tables { IsNew (D.state die.old).shape (length tables.old.map) work.old.span work.old.generations tables.old }
-    ensures mounted { OnOk result (Mounts (geometry_of (D.state die.old).shape work.old (length tables.old.map)) reuse_max (D.state die.old).cells tables.new) }
+    ensures mounted { OnOk result (AreMounted (geometry_of (D.state die.old).shape work.old (length tables.old.map)) reuse_max (D.state die.old).cells tables.new) }
     ensures reads { OnOk result (Reads (page_count (D.state die.old).shape) (D.state die.old) (D.state die.new)) }
-    ensures refused { IfErr result (Refuses (geometry_of (D.state die.old).shape work.old (length tables.old.map)) (D.state die.old) (D.state die.new)) }
+    ensures refused { IfErr result (ScanRefused (geometry_of (D.state die.old).shape work.old (length tables.old.map)) (D.state die.old) (D.state die.new)) }
     ensures same_work { work.new ≡ work.old }
 {
     if read_blocks(die, work, tables).is_err() {

@@ -1,5 +1,5 @@
 -- A page that was scanned shows its slots, and noting them reads it into the tables.
-use Rattle.std.proofs.Common.{◌+◌, ◌*◌, length, sym, subst}
+use Rattle.std.proofs.Common.{◌+◌, length, sym, subst}
 use Rattle.mount_scan.specs.Scanned.{ReadInto, Shows, geometry_of}
 use Rattle.mount_scan.proofs.Blocks.{as_before, page_notes, page_shows}
 use Rattle.mount_scan.proofs.block.read_page.Goals as goal
