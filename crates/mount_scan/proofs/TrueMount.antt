@@ -103,3 +103,7 @@ none_free g cells tables read none block inside =
   where
     scanned : Scanned g cells (places g) tables
     scanned = subst (λ p. Scanned g cells (slots_below g p) tables) (let whole : g.blocks * g.pages + 0 ≡ g.blocks * g.pages = omega arith in whole) read.scanned
+
+-- Where each block has a live record there are no tables of a mount: so such a scan that reads all pages answers no Ok.
+pub none_mounted : (g : Geometry) (few : ℕ) (cells : List (List ℕ)) (tables : Tables) → AreMounted g few cells tables → EveryBlockLive g cells → ⊥
+none_mounted g few cells tables are every = omega (arith, every are.mounted.spare are.mounted.free.within, are.mounted.free.free)
