@@ -13,3 +13,4 @@ pub mod Sights
 pub mod Blocks
 pub mod TrueRun
 pub mod TrueMount
+pub mod OneMount

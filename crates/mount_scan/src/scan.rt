@@ -50,6 +50,7 @@ fn finish(tables: &mut Tables, spare: u32, reuse_max: u32)
         → IsLastFree tables.old.book (length tables.old.book.states) (Some spare) → AreMounted g reuse_max cells tables.new }
 {
     settle(tables, spare);
+    // its contract says what the settled book keeps
     let _blocks = tables.book.blocks();
     recycle_due(&mut tables.book, reuse_max);
 }
