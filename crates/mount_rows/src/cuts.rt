@@ -1,6 +1,6 @@
 //! What a cut left of a collection: copies count from the seal on, all at once, and a block that was erased in part holds none.
 
-use crate::found::{Found, SHAPE, found_on};
+use crate::found::{Found, SHAPE, found_on, sector};
 use block_state::State;
 use cell_die::{Die, PowerDie, Torn};
 use mem_die::MemDie;
@@ -15,13 +15,6 @@ enum Step {
     Sealed,
     /// The write of 33 for which the block was collected stands there too.
     Written,
-}
-
-/// The bytes of a sector that begins with this one and goes on with zeros.
-fn sector(first: u8) -> [u8; 16] {
-    let mut sector = [0; 16];
-    sector[0] = first;
-    sector
 }
 
 /// Four pages of 56 bytes: block 0 has 11 and then 22 in the sector, and block 1 has what a collection made.

@@ -1,6 +1,6 @@
 //! The damages of the page that a write of a5 leaves, each with what the sector then holds and the next seq.
 
-use crate::found::{SHAPE, found_on};
+use crate::found::{SHAPE, found_on, sector};
 use cell_die::Shape;
 use mem_die::MemDie;
 use mount_scan::{ScanRefusal, Tables, scan_all};
@@ -61,7 +61,7 @@ fn damaged_cells_hold_what_is_committed_and_the_next_seq_is_above_all_headers(
         let cells = Vec::from_slice(rt.alloc(), &damaged(damage))?;
         let mut die = MemDie::of_cells(rt.alloc(), SHAPE, cells)?;
         let found = found_on(&rt, rt.alloc(), &mut die)?;
-        assert_eq!(rt; found.sector[0], byte, "{damage:?}");
+        assert_eq!(rt; found.sector, sector(byte), "{damage:?}");
         assert_eq!(rt; found.seq, seq, "{damage:?}");
     }
     Ok(())

@@ -29,6 +29,13 @@ pub struct Found {
     pub blocks: [State; 2],
 }
 
+/// The bytes of a sector that begins with this one and goes on with zeros.
+pub fn sector(first: u8) -> [u8; 16] {
+    let mut sector = [0; 16];
+    sector[0] = first;
+    sector
+}
+
 /// Mounts a die, and reads its sector where a record holds it.
 pub fn found_on<D: Die>(rt: &impl Abort, alloc: Global, die: &mut D) -> Result<Found, Fail>
     requires { (D.state die.old).shape ≡ SHAPE }
