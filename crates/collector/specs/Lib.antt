@@ -1,0 +1,4 @@
+pub mod Effects
+pub mod Store
+pub mod Moves
+pub mod Collections
