@@ -9,7 +9,8 @@ use Rattle.std.proofs.lemmas.List.FromFn.{length-range_with_len}
 abbrev pub count_below : (ℕ → Bool) → ℕ → ℕ
 count_below p n = count_by p (range_with_len 0 n)
 
-abbrev one_if : Bool → ℕ
+-- one where a test passes
+abbrev pub one_if : Bool → ℕ
 one_if b = cond b 1 0
 
 count_from : (ℕ → Bool) → ℕ → ℕ → ℕ
@@ -189,3 +190,28 @@ apart_fewer p f n (suc m) hole gives within missed =
     moved_apart j k a b (inl x) (inr y) same = absurd (b (sym (elsewhere k y) ∙ (sym same ∙ at_last j x)))
     moved_apart j k a b (inr x) (inl y) same = absurd (a (sym (elsewhere j x) ∙ (same ∙ at_last k y)))
     moved_apart j k a b (inr x) (inr y) same = sym (elsewhere j x) ∙ (same ∙ elsewhere k y)
+
+-- where the tests agree but at one place, the counts differ as the tests do there
+pub count_moves : (p q : ℕ → Bool) (n at : ℕ) → at < n → ((k : ℕ) → k < n → k ≢ at → p k ≡ q k) → count_below q n + one_if (p at) ≡ count_below p n + one_if (q at)
+count_moves p q n at within f = elim (cases_Bool (p at)) [
+  | inl was ↦ elim (cases_Bool (q at)) [
+    | inl is ↦ (
+        let p_one : one_if (p at) ≡ 1 = ap one_if was in
+        let q_one : one_if (q at) ≡ 1 = ap one_if is in
+        omega (arith, same_count p q n (λ k h. elim (cases_eq k at) [ inl same ↦ ap p same ∙ (was ∙ sym (ap q same ∙ is)) | inr other ↦ f k h other ])))
+    | inr is_not ↦ (
+        let p_one : one_if (p at) ≡ 1 = ap one_if was in
+        let q_none : one_if (q at) ≡ 0 = ap one_if is_not in
+        omega (arith, count_drops p q n at within was is_not f))
+  ]
+  | inr was_not ↦ elim (cases_Bool (q at)) [
+    | inl is ↦ (
+        let p_none : one_if (p at) ≡ 0 = ap one_if was_not in
+        let q_one : one_if (q at) ≡ 1 = ap one_if is in
+        omega (arith, count_rises p q n at within was_not is f))
+    | inr is_not ↦ (
+        let p_none : one_if (p at) ≡ 0 = ap one_if was_not in
+        let q_none : one_if (q at) ≡ 0 = ap one_if is_not in
+        omega (arith, same_count p q n (λ k h. elim (cases_eq k at) [ inl same ↦ ap p same ∙ (was_not ∙ sym (ap q same ∙ is_not)) | inr other ↦ f k h other ])))
+  ]
+]
