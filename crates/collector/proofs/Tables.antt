@@ -30,7 +30,7 @@ use Rattle.collector.specs.Effects.{former_in, recorded, filled, fill_of, after_
 use Rattle.collector.proofs.Counting.{count_below, one_if, count_moves, none_pass, none_passes, one_passes}
 use Rattle.collector.proofs.Books.{SameStates, state_here, state_there, active_within, valid_state, spare_stays, recorded_states, valid_recorded, one_at, one_in, recorded_live}
 use Rattle.collector.proofs.Room.{live_within, has_room}
-use Rattle.collector.proofs.NextPage.{PutsNext, next_page, next_gate, next_page_within, block_of_next, may_hold_next, none_committed, wins_from_gate}
+use Rattle.collector.proofs.NextPage.{PutsNext, next_page, next_gate, next_page_within, block_of_next, may_hold_next, none_committed, wins_from_gate, some_span}
 
 -- ---- the map
 
@@ -84,7 +84,6 @@ former_some g v x pages = at (says_zeros x.header)
 -- the pages of a block stay, and no live record comes to it
 pub record BlockStays (g : Geometry) (old new : List (List ℕ)) (block : ℕ) : Type 0 where
   pub some_pages : 0 < g.pages
-  pub some_span : 0 < g.span
   pub pages : (i : ℕ) → i < g.pages → page_at new (block * g.pages + i) ≡ page_at old (block * g.pages + i)
   pub live : (sector : ℕ) → sector < g.sectors → stands_in g block (live_record g new sector) ≡ true → live_record g new sector ≡ live_record g old sector
 
@@ -95,15 +94,15 @@ all_same p q a (suc n) f = ap₂ (λ (s t : Bool). s && t)
     (all_same p q (a + 1) n (λ i h. subst (λ (z : ℕ). p z ≡ q z) (omega arith) (f (suc i) (omega arith))))
 
 -- the first page of a unit is one of the block's
-pub unit_inside : (g : Geometry) (u : ℕ) → 0 < g.span → u < units g → u * g.span < g.pages
-unit_inside g u some within = room u g.pages g.span some within
+pub unit_inside : (g : Geometry) (u : ℕ) → u < units g → u * g.span < g.pages
+unit_inside g u within = room u g.pages g.span (some_span g u within) within
   where
     room : (u w s : ℕ) → 0 < s → u < w / s → u * s < w
     room u w s some below = omega (arith, div-add-mod' w s, mul-le-mul_right s below, suc-mul u s)
 
 pub unit_slot_stays : (g : Geometry) (old new : List (List ℕ)) (block u slot : ℕ) → BlockStays g old new block → u < units g → UnitSlotBlank g old block u slot → UnitSlotBlank g new block u slot
 unit_slot_stays g old new block u slot s within blank =
-    ap (λ (row : List ℕ). is_slot_blank (drop g.main_bytes row) slot) (s.pages (u * g.span) (unit_inside g u s.some_span within)) ∙ blank
+    ap (λ (row : List ℕ). is_slot_blank (drop g.main_bytes row) slot) (s.pages (u * g.span) (unit_inside g u within)) ∙ blank
 
 pub above_stays : (g : Geometry) (old new : List (List ℕ)) (block level : ℕ) → BlockStays g old new block → BlankAbove g old block level → BlankAbove g new block level
 above_stays g old new block level s above u slot within low high = unit_slot_stays g old new block u slot s within (above u slot within low high)
@@ -214,7 +213,6 @@ module _ (g : Geometry) (block fill : ℕ) (h : Header) (old new : List (List �
   pub others_stay : (b : ℕ) → b ≢ block → BlockStays g old new b
   others_stay b apart = record {
     some_pages = omega (arith, p.active.room);
-    some_span = p.span;
     pages = λ i within. p.only (b * g.pages + i) (λ e. apart (sym (div-mul-add b g.pages i within) ∙ (ap (block_of g) e ∙ block_of_next g block fill p.active.room)));
     live = λ sector within stands. at sector (cases_eq sector h.sector) stands;
   }

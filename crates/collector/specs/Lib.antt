@@ -1,4 +1,5 @@
 pub mod Effects
 pub mod Store
 pub mod Moves
+pub mod Named
 pub mod Collections

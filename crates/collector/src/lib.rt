@@ -5,6 +5,7 @@
 
 mod effect;
 mod idle;
+mod live;
 
 pub use effect::record_effect;
 pub use idle::move_one;
