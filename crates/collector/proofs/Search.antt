@@ -8,6 +8,7 @@ use Rattle.cell_die.specs.Cells.{page_at}
 use Rattle.cell_die.specs.DieState.{DieState, page_of}
 use Rattle.cell_die.specs.Changes.{SameCells}
 use Rattle.cell_die.specs.Calls.{Kept, Passed}
+use Rattle.cell_die.proofs.Sequences.{kept_trans, passed_trans}
 use Rattle.spare_gate.specs.Slots.{header_at}
 use Rattle.sector_map.specs.declared.entry.Entry.{Entry}
 use Rattle.sector_map.specs.Entry.{entry_at}
@@ -156,3 +157,25 @@ none_found table sizes old die from page s none place low high within = elim (ca
 -- some page has one
 pub some_found : (table : List (Option Entry)) (sizes : Sizes) (old die : DieState) (from pages page : ℕ) → Searched table sizes old die from page → from + pages ≤ page → HasNamed table sizes old from pages → ⊥
 some_found table sizes old die from pages page s past has = none-some has.live (sym (s.none has.live.place has.low (omega (arith, has.high)) has.slot) ∙ has.named)
+
+-- what a scan of the page says, in the sizes that the search began with
+pub seen_of : (table : List (Option Entry)) (sizes sizes' : Sizes) (page : ℕ) (die : DieState) (seen : Seen) (o : Option LiveRecord) → sizes' ≡ sizes
+    → seen ≡ seen_page sizes'.page_bytes sizes'.generations (page_of die page) → first_seen table page seen ≡ o → first_seen table page (seen_page sizes.page_bytes sizes.generations (page_of die page)) ≡ o
+seen_of table sizes sizes' page die seen o same is e =
+    ap (first_seen table page) (sym (is ∙ ap (λ (w : Sizes). seen_page w.page_bytes w.generations (page_of die page)) same)) ∙ e
+
+pub none_is : (o : Option LiveRecord) → ((live : LiveRecord) → o ≡ Some live → ⊥) → o ≡ None
+none_is None never = refl
+none_is (Some live) never = absurd (never live refl)
+
+pub searched_more : (table : List (Option Entry)) (sizes : Sizes) (old die new : DieState) (from page : ℕ) → from ≤ page → sizes.generations ≤ 3 → Searched table sizes old die from page
+    → SameCells die new → Kept die new → Passed 0 1 die new → first_seen table page (seen_page sizes.page_bytes sizes.generations (page_of die page)) ≡ None → Searched table sizes old new from (page + 1)
+searched_more table sizes old die new from page low few s same kept passed none = record {
+  same_cells = record { cells = same.cells ∙ s.same_cells.cells; erases = same.erases ∙ s.same_cells.erases };
+  kept = kept_trans s.kept kept;
+  passed = subst (λ (n : ℕ). Passed 0 n old new) (omega arith) (passed_trans s.passed passed);
+  none = none_found table sizes old die from page s (none_seen table sizes.page_bytes sizes.generations page die few none);
+}
+
+pub searched_passed : (table : List (Option Entry)) (sizes : Sizes) (old die new : DieState) (from page last : ℕ) → from ≤ page → last ≡ page → Searched table sizes old die from page → Passed 0 1 die new → Passed 0 (last + 1 - from) old new
+searched_passed table sizes old die new from page last low same s passed = subst (λ (n : ℕ). Passed 0 n old new) (omega arith) (passed_trans s.passed passed)
