@@ -3,6 +3,7 @@
 //! It knows the rules of collections and of idle moves, and nothing of offers or of whole commands.
 #![tactic(auto)]
 
+mod again;
 mod effect;
 mod idle;
 mod live;
