@@ -63,4 +63,12 @@ pub record MovedRecord (g : Geometry) (d : Decoding) (live : LiveRecord) (page :
   pub others : (sector : ℕ) → sector ≢ live.header.sector → live_record g new.die.cells sector ≡ live_record g old.die.cells sector
   pub rows : SameRows g d old new
   pub book : (block fill : ℕ) → state_at old.book block ≡ Active fill → new.book ≡ filled (recorded old.book block (Some (block_of g live.place.page))) block
+  pub seq : new.seq ≡ old.seq + 1
   pub tables : IsTrueStore g new
+
+-- how the move of a record ends: moved, with a failed read and no change, or with a failed change call after which all sectors stay
+abbrev pub MoveEnds : {A : Type 0} → Geometry → Meaning → LiveRecord → ℕ → Result A PutFault → Store → Store → Type 0
+MoveEnds g meaning live page (Ok _) old new = MovedRecord g meaning.decoding live page old new × Passed 2 (again_reads meaning live) old.die new.die
+MoveEnds g meaning live page (Err Read) old new = (new ≡ record old { die = new.die }) × SameCells old.die new.die × ReadFailed 0 (again_reads meaning live) old.die new.die
+MoveEnds g meaning live page (Err Change) old new =
+    (new ≡ record old { die = new.die; seq = old.seq + 1 }) × SameRows g meaning.decoding old new × ChangeFailed 2 (again_reads meaning live) old.die new.die

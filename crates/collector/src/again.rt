@@ -4,7 +4,7 @@ ghost use Rattle.std.specs.Prelude.{◌≡◌, ◌<◌, ◌+◌, ◌-◌, ◌*�
 ghost use Rattle.cell_die.specs.Cells.{is_blank};
 ghost use Rattle.cell_die.specs.DieState.{page_count, page_of};
 ghost use Rattle.cell_die.specs.Calls.{Kept, Passed, ChangeFailed};
-ghost use Rattle.striped.specs.Meaning.{IsSector};
+ghost use Rattle.striped.specs.Meaning.{Meaning, IsSector};
 ghost use Rattle.page_codec.specs.Sizes.{Serves, ServesScheme};
 ghost use Rattle.page_codec.specs.Sectors.{says_zeros as zeros_said};
 ghost use Rattle.page_codec.specs.Puts.{Puts, FirstCarries, first_slot, is_gated};
@@ -40,9 +40,8 @@ fn draw_header(header: &Header, seq: &mut u64) -> Header
 }
 
 /// Puts a record of zeros again.
-fn put_zeros_again<D: Die, C: Scheme>(
+fn put_zeros_again<D: Die>(
     die: &mut D,
-    scheme: &C,
     work: &mut Work,
     live: &LiveRecord,
     page: u32,
@@ -53,11 +52,10 @@ fn put_zeros_again<D: Die, C: Scheme>(
     requires page { page < page_count (D.state die.old).shape }
     requires blank { is_blank (page_of (D.state die.old) page) ≡ true }
     requires fresh { seq.old < 2 ^ 62 }
-    ensures ends { AgainEnds (C.meaning scheme.now) live.now page result (D.state die.old) seq.old (D.state die.new) seq.new }
+    ensures ends { (meaning : Meaning) → AgainEnds meaning live.now page result (D.state die.old) seq.old (D.state die.new) seq.new }
     ensures kept { Kept (D.state die.old) (D.state die.new) }
     ensures same_work { work.new ≡ work.old }
 {
-    let _meaning = scheme;
     let header = draw_header(&live.header, seq);
     match put_zeros(die, work, page, &header) {
         Ok(()) => Ok(()),
@@ -152,7 +150,7 @@ pub(crate) fn put_again<D: Die, C: Scheme>(
     ensures same_work { work.new ≡ work.old }
 {
     if says_zeros(&live.header) {
-        put_zeros_again(die, scheme, work, live, page, seq)
+        put_zeros_again(die, work, live, page, seq)
     } else {
         put_bytes_again(die, scheme, work, live, page, seq)
     }
