@@ -64,7 +64,7 @@ later_unit g place holds later = elim (or_cases _ _ (and_parts _ _ holds).1) [
 ]
 
 -- the unit that a page begins
-abbrev unit_at_page : Geometry → ℕ → ℕ
+abbrev pub unit_at_page : Geometry → ℕ → ℕ
 unit_at_page g page = page % g.pages / g.span
 
 pub unit_of_page : (g : Geometry) (page : ℕ) → is_unit_page g page ≡ true → (unit_at_page g page < units g) × (page ≡ unit_page g (block_of g page) (unit_at_page g page))
