@@ -1,6 +1,6 @@
 -- A live record that is put again on the next page of the Active block says the same, so all sectors stay; from its gate on it is
 -- the live one of its sector.
-use Rattle.std.proofs.Common.{◌≡◌, ◌≢◌, ◌⊎◌, inl, inr, ℕ, ◌+◌, ◌-◌, ◌*◌, ◌/◌, ◌^◌, ◌<◌, ◌≤◌, Bool, true, false, List, length, take, drop, slice_set, ◌||◌, ◌==◌, if◌then◌else◌, Option, Some, None, Result, Ok, Err, refl, sym, ap, ap₂, ◌∙◌, arith, subst}
+use Rattle.std.proofs.Common.{◌≡◌, ◌≢◌, ◌⊎◌, inl, inr, ℕ, ◌+◌, ◌-◌, ◌*◌, ◌/◌, ◌^◌, ◌<◌, ◌≤◌, Bool, true, false, List, length, take, drop, slice_set, ◌||◌, ◌==◌, if◌then◌else◌, Option, Some, None, refl, sym, ap, ap₂, ◌∙◌, arith, subst}
 use Rattle.std.specs.List.{flat_map, range_with_len}
 use Rattle.std.proofs.lemmas.Bool.{cases_eq, cases_Bool, false≢true, eqb-true}
 use Rattle.std.proofs.lemmas.Option.{same_Some}
@@ -39,7 +39,7 @@ use Rattle.collector.specs.declared.live.LiveRecord.{LiveRecord}
 use Rattle.collector.specs.Store.{Store, store, geometry_of, Holds}
 use Rattle.collector.specs.Effects.{recorded, filled, after_record, block_in, former_in, MayDrop}
 use Rattle.collector.specs.Moves.{plain_kind}
-use Rattle.collector.specs.Again.{IsNextPage, IsLive, again, again_reads, SaysAgain, PutsAgain, AgainEnds, MovedRecord, MoveEnds}
+use Rattle.collector.specs.Again.{IsNextPage, IsLive, again, again_reads, SaysAgain, PutsAgain, AgainFails, MovedRecord, MoveFails}
 use Rattle.collector.proofs.Blanks.{committed_header}
 use Rattle.collector.proofs.Books.{active_within}
 use Rattle.collector.proofs.Rows.{rows_same, zeros_say}
@@ -287,19 +287,19 @@ module _ (g : Geometry) (meaning : Meaning) (live : LiveRecord) (page : ℕ) (di
     pub effect_former : MayDrop book (former_in book (entry_at table live.header.sector))
     effect_former = may_drop g block fill moved die.cells new.cells (puts_next new p kept shaped_new) (gate_is new p kept shaped_new ∙ gated) book table seq m.tables m.next.1.active refl
 
--- ---- how the move ends
+-- ---- how the move fails
 
 -- a put that failed leaves the tables
-pub failed_ends : (A : Type 0) (g : Geometry) (meaning : Meaning) (live : LiveRecord) (page : ℕ) (old new : DieState) (book : BookValue) (table : List (Option Entry)) (seq seq' : ℕ) (fault : PutFault)
-    → IsMoving g meaning live page old book table seq → Kept old new → IsShaped new → AgainEnds {A = A} meaning live page (Err fault) old seq new seq'
-    → MoveEnds {A = A} g meaning live page (Err fault) (store old table book seq) (store new table book seq')
-failed_ends A g meaning live page old new book table seq seq' Read m kept shaped e =
+pub failed_ends : (g : Geometry) (meaning : Meaning) (live : LiveRecord) (page : ℕ) (old new : DieState) (book : BookValue) (table : List (Option Entry)) (seq seq' : ℕ) (fault : PutFault)
+    → IsMoving g meaning live page old book table seq → Kept old new → IsShaped new → AgainFails meaning live page fault old seq new seq'
+    → MoveFails g meaning live fault (store old table book seq) (store new table book seq')
+failed_ends g meaning live page old new book table seq seq' Read m kept shaped e =
     ((λ i. record { die = new; table = table; book = book; seq = e.2 i }), e.0, e.1)
-failed_ends A g meaning live page old new book table seq seq' Change m kept shaped e =
+failed_ends g meaning live page old new book table seq seq' Change m kept shaped e =
     ((λ i. record { die = new; table = table; book = book; seq = e.2 i }), moving_rows g meaning live page old book table seq m new e.0 kept shaped, e.1)
 
-pub failed_holds : (A : Type 0) (g : Geometry) (meaning : Meaning) (live : LiveRecord) (page : ℕ) (old new : DieState) (book : BookValue) (table : List (Option Entry)) (seq seq' : ℕ) (fault : PutFault)
-    → IsMoving g meaning live page old book table seq → Kept old new → IsShaped new → AgainEnds {A = A} meaning live page (Err fault) old seq new seq'
+pub failed_holds : (g : Geometry) (meaning : Meaning) (live : LiveRecord) (page : ℕ) (old new : DieState) (book : BookValue) (table : List (Option Entry)) (seq seq' : ℕ) (fault : PutFault)
+    → IsMoving g meaning live page old book table seq → Kept old new → IsShaped new → AgainFails meaning live page fault old seq new seq'
     → Holds g (store old table book seq) (store new table book seq')
-failed_holds A g meaning live page old new book table seq seq' Read m kept shaped e = same_holds g (store old table book seq) (store new table book seq') kept e.0 e.2
-failed_holds A g meaning live page old new book table seq seq' Change m kept shaped e = moving_holds g meaning live page old book table seq m new e.0 kept shaped table book seq' e.2
+failed_holds g meaning live page old new book table seq seq' Read m kept shaped e = same_holds g (store old table book seq) (store new table book seq') kept e.0 e.2
+failed_holds g meaning live page old new book table seq seq' Change m kept shaped e = moving_holds g meaning live page old book table seq m new e.0 kept shaped table book seq' e.2

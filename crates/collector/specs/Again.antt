@@ -44,13 +44,16 @@ SaysAgain meaning die live page done =
 abbrev pub PutsAgain : Meaning → LiveRecord → ℕ → DieState → ℕ → DieState → Type 0
 PutsAgain meaning live page old seq new = Puts (SaysAgain meaning old live page) 1 (first_slot page) (again live.header seq) old new
 
--- how that put ends: with the record, with a failed read before a number was drawn, or with a failed change call
+-- how that put fails: with a failed read before a number was drawn, or with a failed change call
+abbrev pub AgainFails : Meaning → LiveRecord → ℕ → PutFault → DieState → ℕ → DieState → ℕ → Type 0
+AgainFails meaning live page Read old seq new next = SameCells old new × ReadFailed 0 (again_reads meaning live) old new × (next ≡ seq)
+AgainFails meaning live page Change old seq new next = PutsAgain meaning live page old seq new × ChangeFailed 2 (again_reads meaning live) old new × (next ≡ seq + 1)
+
+-- how it ends
 abbrev pub AgainEnds : {A : Type 0} → Meaning → LiveRecord → ℕ → Result A PutFault → DieState → ℕ → DieState → ℕ → Type 0
 AgainEnds meaning live page (Ok _) old seq new next =
     PutsAgain meaning live page old seq new × (is_gated new (first_slot page) ≡ true) × Passed 2 (again_reads meaning live) old new × (next ≡ seq + 1)
-AgainEnds meaning live page (Err Read) old seq new next = SameCells old new × ReadFailed 0 (again_reads meaning live) old new × (next ≡ seq)
-AgainEnds meaning live page (Err Change) old seq new next =
-    PutsAgain meaning live page old seq new × ChangeFailed 2 (again_reads meaning live) old new × (next ≡ seq + 1)
+AgainEnds meaning live page (Err fault) old seq new next = AgainFails meaning live page fault old seq new next
 
 -- the live record of a sector of the device
 pub record IsLive (g : Geometry) (cells : List (List ℕ)) (live : LiveRecord) : Type 0 where
@@ -66,9 +69,13 @@ pub record MovedRecord (g : Geometry) (d : Decoding) (live : LiveRecord) (page :
   pub seq : new.seq ≡ old.seq + 1
   pub tables : IsTrueStore g new
 
--- how the move of a record ends: moved, with a failed read and no change, or with a failed change call after which all sectors stay
+-- how the move of a record fails: with a failed read and no change, or with a failed change call after which all sectors stay
+abbrev pub MoveFails : Geometry → Meaning → LiveRecord → PutFault → Store → Store → Type 0
+MoveFails g meaning live Read old new = (new ≡ record old { die = new.die }) × SameCells old.die new.die × ReadFailed 0 (again_reads meaning live) old.die new.die
+MoveFails g meaning live Change old new =
+    (new ≡ record old { die = new.die; seq = old.seq + 1 }) × SameRows g meaning.decoding old new × ChangeFailed 2 (again_reads meaning live) old.die new.die
+
+-- how it ends
 abbrev pub MoveEnds : {A : Type 0} → Geometry → Meaning → LiveRecord → ℕ → Result A PutFault → Store → Store → Type 0
 MoveEnds g meaning live page (Ok _) old new = MovedRecord g meaning.decoding live page old new × Passed 2 (again_reads meaning live) old.die new.die
-MoveEnds g meaning live page (Err Read) old new = (new ≡ record old { die = new.die }) × SameCells old.die new.die × ReadFailed 0 (again_reads meaning live) old.die new.die
-MoveEnds g meaning live page (Err Change) old new =
-    (new ≡ record old { die = new.die; seq = old.seq + 1 }) × SameRows g meaning.decoding old new × ChangeFailed 2 (again_reads meaning live) old.die new.die
+MoveEnds g meaning live page (Err fault) old new = MoveFails g meaning live fault old new
