@@ -264,3 +264,27 @@ change_failed_one g meaning old new mid from live spans same passed low high m =
   rows = m.1 ∙ ap (stored g meaning.decoding) same.cells;
   failed = change_failed_within 2 (move_reads g) (omega arith) (omega (arith, again_few g meaning live spans)) (change_failed_after passed m.2);
 }
+
+-- the block of the next page has a page
+pub some_pages : (v : BookValue) (page room : ℕ) → IsValid v → IsNextPage v page room → 0 < v.pages
+some_pages v page room valid next =
+    let in_range : next.fill < v.pages = subst (InRange v.pages v.units v.generations) next.active (valid.in_range next.block) in
+    omega arith
+
+-- a die of the same shape has the same geometry
+pub same_geometry : (old mid : Shape) (meaning : Meaning) (sectors : ℕ) → mid ≡ old → geometry_of mid meaning sectors ≡ geometry_of old meaning sectors
+same_geometry old mid meaning sectors same = ap (λ (s : Shape). geometry_of s meaning sectors) same
+
+-- the pages of a block by the book's number
+pub first_at : (table : List (Option Entry)) (sizes : Sizes) (die : DieState) (victim pages pages' : ℕ) (live : LiveRecord) → pages ≡ pages' → IsFirstNamed table sizes die (victim * pages) pages live → IsFirstNamed table sizes die (victim * pages') pages' live
+first_at table sizes die victim pages pages' live same f = subst (λ (n : ℕ). IsFirstNamed table sizes die (victim * n) n live) same f
+
+pub named_at : (table : List (Option Entry)) (sizes : Sizes) (die : DieState) (victim pages pages' : ℕ) → pages ≡ pages' → HasNamed table sizes die (victim * pages) pages → HasNamed table sizes die (victim * pages') pages'
+named_at table sizes die victim pages pages' same h = subst (λ (n : ℕ). HasNamed table sizes die (victim * n) n) same h
+
+pub passed_at : (old mid : DieState) (last victim pages pages' : ℕ) → pages ≡ pages' → Passed 0 (last + 1 - victim * pages) old mid → Passed 0 (last + 1 - victim * pages') old mid
+passed_at old mid last victim pages pages' same p = subst (λ (n : ℕ). Passed 0 (last + 1 - victim * n) old mid) same p
+
+-- a record that is live is live after calls that change no cell
+pub live_after_reads : (g g' : Geometry) (old mid : DieState) (live : LiveRecord) → g' ≡ g → SameCells old mid → IsLive g old.cells live → IsLive g' mid.cells live
+live_after_reads g g' old mid live same cells is = subst (λ (h : Geometry). IsLive h mid.cells live) (sym same) (subst (λ (rows : List (List ℕ)). IsLive g rows live) (sym cells.cells) is)
