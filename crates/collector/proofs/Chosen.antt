@@ -288,3 +288,7 @@ passed_at old mid last victim pages pages' same p = subst (λ (n : ℕ). Passed 
 -- a record that is live is live after calls that change no cell
 pub live_after_reads : (g g' : Geometry) (old mid : DieState) (live : LiveRecord) → g' ≡ g → SameCells old mid → IsLive g old.cells live → IsLive g' mid.cells live
 live_after_reads g g' old mid live same cells is = subst (λ (h : Geometry). IsLive h mid.cells live) (sym same) (subst (λ (rows : List (List ℕ)). IsLive g rows live) (sym cells.cells) is)
+
+-- a victim that fits the room is a move that is left
+pub one_left : (v : BookValue) (page room victim : ℕ) → IsNextPage v page room → IsIdleVictim v room victim → NoMoveLeft v → ⊥
+one_left v page room victim next is none = omega (arith, none room (inl (next.block, next.fill, next.active, next.room_is)) victim is.0.closed is.0.enough, is.1)

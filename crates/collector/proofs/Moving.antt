@@ -44,7 +44,8 @@ use Rattle.collector.proofs.Blanks.{committed_header}
 use Rattle.collector.proofs.Books.{active_within}
 use Rattle.collector.proofs.Rows.{rows_same, zeros_say}
 use Rattle.collector.proofs.NextPage.{PutsNext, next_page, next_gate, next_page_within, block_of_next, may_hold_next, none_committed, later_unit, unit_of_page, unit_at_page, some_span, wins_from_gate, stores_from_gate, stored_before_gate}
-use Rattle.collector.proofs.Tables.{entry_live, former_some, effect_true, live_room, may_drop, block_within}
+use Rattle.collector.proofs.Tables.{former_some, entry_true}
+use Rattle.collector.proofs.Recorded.{MayRecord, Recorded, after_active, in_block, next_may_record, next_recorded}
 use Rattle.collector.proofs.Fresh.{next_put, next_holds, same_holds}
 
 -- A live record is at hand, and the page that the Active block fills next.
@@ -111,17 +112,6 @@ entry_again place h seq =
 -- the units of a block fit it
 units_fit : (w s : ℕ) → w / s * s ≤ w
 units_fit w s = omega (arith, div-add-mod' w s)
-
--- an Active block fills
-after_active : (v : BookValue) (b f : ℕ) (former : Option ℕ) → state_at v b ≡ Active f → after_record v b former ≡ filled (recorded v b former) b
-after_active v b f former active = ap (λ (s : State). if is_active s then filled (recorded v b former) b else recorded v b former) active
-
--- an entry for the page names the Active block
-block_named : (g : Geometry) (meaning : Meaning) (live : LiveRecord) (page : ℕ) (die : DieState) (book : BookValue) (table : List (Option Entry)) (seq : ℕ) (m : IsMoving g meaning live page die book table seq)
-    (entry : Entry) → place_of entry ≡ record { page = page; slot = 0 } → block_in book entry ≡ m.next.1.block
-block_named g meaning live page die book table seq m entry placed =
-    let room : m.next.1.fill < book.pages = subst (InRange book.pages book.units book.generations) m.next.1.active (m.tables.kept.in_range m.next.1.block) in
-    ap (λ (x : Place2). x.page / book.pages) placed ∙ (ap (λ (n : ℕ). n / book.pages) m.next.1.page_is ∙ div-mul-add m.next.1.block book.pages m.next.1.fill room)
 
 module _ (g : Geometry) (meaning : Meaning) (live : LiveRecord) (page : ℕ) (die : DieState) (book : BookValue) (table : List (Option Entry)) (seq : ℕ) (m : IsMoving g meaning live page die book table seq) where
   abbrev block : ℕ
@@ -228,64 +218,42 @@ module _ (g : Geometry) (meaning : Meaning) (live : LiveRecord) (page : ℕ) (di
       | inr open' ↦ stored_before_gate g block fill moved die.cells new.cells puts_next meaning.decoding open'
     ]
 
-    -- the tables after the record effect
-    module _ (table' : List (Option Entry)) (book' : BookValue) (entry : Entry) (gated : is_gated new (first_slot page) ≡ true)
-        (names : entry_of (Some (record { place = first_slot page; header = live.header })) ≡ Some entry) (placed : place_of entry ≡ record { page = page; slot = 0 })
-        (map_is : table' ≡ slice_set table live.header.sector (Some entry))
-        (book_is : book' ≡ after_record book (block_in book entry) (former_in book (entry_at table live.header.sector))) where
-      charged : next_gate g m.next.1.block m.next.1.fill new.cells ≡ true
-      charged = gate_is ∙ gated
+    -- ---- the record effect
 
-      in_block : block_in book entry ≡ m.next.1.block
-      in_block = block_named g meaning live page die book table seq m entry placed
+    module _ (entry : Entry) (placed : place_of entry ≡ record { page = page; slot = 0 }) where
+      placed_next : place_of entry ≡ record { page = next_page g m.next.1.block m.next.1.fill; slot = 0 }
+      placed_next = placed ∙ (λ i. record { page = at_page i; slot = 0 })
 
-      book_filled : book' ≡ filled (recorded book m.next.1.block (former_in book (entry_at table live.header.sector))) m.next.1.block
-      book_filled = book_is ∙ (ap (λ (b : ℕ). after_record book b (former_in book (entry_at table live.header.sector))) in_block ∙ after_active book block fill (former_in book (entry_at table live.header.sector)) m.next.1.active)
+      -- what it asks
+      pub moving_may_record : MayRecord book table live.header.sector entry
+      moving_may_record = next_may_record g block fill moved die.cells new.cells puts_next book table seq m.tables m.next.1.active m.sectors entry placed_next
 
-      former_is : former_in book (entry_at table live.header.sector) ≡ Some (block_of g live.place.page)
-      former_is = ap (λ (map : List (Option Entry)). former_in book (entry_at map live.header.sector)) m.tables.entries
-          ∙ (ap (former_in book) (entry_live g die.cells live.header.sector m.is_live.sector ∙ ap entry_of m.is_live.is)
-          ∙ former_some g book (record { place = live.place; header = live.header }) m.tables.sizes.pages)
+      -- and what it leaves
+      module _ (table' : List (Option Entry)) (book' : BookValue) (seq' : ℕ) (gated : is_gated new (first_slot page) ≡ true) (drawn : seq' ≡ seq + 1)
+          (names : entry_of (Some (record { place = first_slot page; header = live.header })) ≡ Some entry) (map_is : table' ≡ slice_set table live.header.sector (Some entry))
+          (book_is : book' ≡ after_record book (block_in book entry) (former_in book (entry_at table live.header.sector))) where
+        entry_moved : entry_of (Some (record { place = first_slot (next_page g m.next.1.block m.next.1.fill); header = again live.header seq })) ≡ Some entry
+        entry_moved = ap (λ (q : ℕ). entry_of (Some (record { place = first_slot q; header = again live.header seq }))) (sym at_page) ∙ (entry_again (first_slot page) live.header seq ∙ names)
 
-      entry_moved : entry_of (Some (record { place = first_slot (next_page g m.next.1.block m.next.1.fill); header = again live.header seq })) ≡ Some entry
-      entry_moved = ap (λ (q : ℕ). entry_of (Some (record { place = first_slot q; header = again live.header seq }))) (sym at_page) ∙ (entry_again (first_slot page) live.header seq ∙ names)
+        left : Recorded g meaning.decoding m.next.1.block m.next.1.fill (again live.header seq) (store die table book seq) (store new table' book' seq')
+        left = next_recorded g meaning.decoding block fill moved (store die table book seq) (store new table' book' seq') entry puts_next (gate_is ∙ gated) m.tables m.next.1.active refl placed_next entry_moved map_is book_is drawn
 
-      pub moved_record : (seq' : ℕ) → seq' ≡ seq + 1 → MovedRecord g meaning.decoding live page (store die table book seq) (store new table' book' seq')
-      moved_record seq' drawn =
-          let wins = wins_from_gate g block fill moved die.cells new.cells puts_next charged in
-          let tables : IsTrue g new.cells (filled (recorded book m.next.1.block (former_in book (entry_at table live.header.sector))) m.next.1.block) (slice_set table live.header.sector (Some entry)) (seq + 1)
-          = effect_true g block fill moved die.cells new.cells puts_next charged book table seq m.tables m.next.1.active refl entry entry_moved in
-          record {
-            there = wins.live ∙ ap (λ (q : ℕ). Some (record { place = first_slot q; header = again live.header seq })) (sym at_page);
-            others = wins.others;
-            rows = moving_rows;
-            book = λ b f active.
-                book_filled ∙ (ap (λ (o : Option ℕ). filled (recorded book m.next.1.block o) m.next.1.block) former_is
-                ∙ ap (λ (c : ℕ). filled (recorded book c (Some (block_of g live.place.page))) c) (m.tables.kept.one_active m.next.1.block b (ap is_active m.next.1.active) (ap is_active active)));
-            seq = drawn;
-            tables = subst (λ (n : ℕ). IsTrue g new.cells book' table' n) (sym drawn)
-                (subst (λ (map : List (Option Entry)). IsTrue g new.cells book' map (seq + 1)) (sym map_is) (subst (λ (v : BookValue). IsTrue g new.cells v (slice_set table live.header.sector (Some entry)) (seq + 1)) (sym book_filled) tables));
-          }
+        former_is : former_in book (entry_at table live.header.sector) ≡ Some (block_of g live.place.page)
+        former_is = ap (former_in book) (entry_true g die.cells book table seq m.tables live.header.sector m.is_live.sector ∙ ap entry_of m.is_live.is)
+            ∙ former_some g book (record { place = live.place; header = live.header }) m.tables.sizes.pages
 
-  -- ---- what the record effect asks
-
-  module _ (new : DieState) (p : PutsAgain meaning live page die seq new) (kept : Kept die new) (shaped_new : IsShaped new) (gated : is_gated new (first_slot page) ≡ true)
-      (entry : Entry) (placed : place_of entry ≡ record { page = page; slot = 0 }) where
-    pub effect_page : (place_of entry).page < 131072
-    effect_page = subst (λ (q : ℕ). q < 131072) (sym (ap (λ (x : Place2). x.page) placed)) (few page_within)
-      where
-        few : page < page_count g → page < 131072
-        few below = omega (arith, mul-le g.blocks g.pages 1024 128 (omega (arith, m.tables.sizes.blocks, m.tables.kept.few_blocks)) (omega (arith, m.tables.sizes.pages, m.tables.kept.few_pages)))
-
-    pub effect_block : block_in book entry < length book.states
-    effect_block = subst (λ (b : ℕ). b < length book.states) (sym (block_named g meaning live page die book table seq m entry placed)) (active_within book block fill m.next.1.active)
-
-    pub effect_room : live_at book (block_in book entry) < book.generations * book.pages
-    effect_room = subst (λ (b : ℕ). live_at book b < book.generations * book.pages) (sym (block_named g meaning live page die book table seq m entry placed))
-        (live_room g block fill moved die.cells new.cells (puts_next new p kept shaped_new) (gate_is new p kept shaped_new ∙ gated) book table seq m.tables m.next.1.active refl)
-
-    pub effect_former : MayDrop book (former_in book (entry_at table live.header.sector))
-    effect_former = may_drop g block fill moved die.cells new.cells (puts_next new p kept shaped_new) (gate_is new p kept shaped_new ∙ gated) book table seq m.tables m.next.1.active refl
+        pub moved_record : MovedRecord g meaning.decoding live page (store die table book seq) (store new table' book' seq')
+        moved_record = record {
+          there = left.live ∙ ap (λ (q : ℕ). Some (record { place = first_slot q; header = again live.header seq })) (sym at_page);
+          others = left.others;
+          rows = moving_rows;
+          book = λ b f active.
+              book_is ∙ (ap (λ (c : ℕ). after_record book c (former_in book (entry_at table live.header.sector))) (in_block g block fill book entry m.tables.sizes.pages active_block.room placed_next
+              ∙ m.tables.kept.one_active m.next.1.block b (ap is_active m.next.1.active) (ap is_active active))
+              ∙ (after_active book b f (former_in book (entry_at table live.header.sector)) active ∙ ap (λ (o : Option ℕ). filled (recorded book b o) b) former_is));
+          seq = drawn;
+          tables = left.tables;
+        }
 
 -- ---- how the move fails
 

@@ -114,6 +114,7 @@ pub fn move_one<D: Die, C: Scheme>(
         (store (D.state die.old) map.old book.old seq.old)
         (store (D.state die.new) map.new book.new seq.new) }
     ensures none { result ≡ Ok false → NoMoveLeft book.old }
+    ensures none_alone { NoMoveLeft book.old → result ≡ Ok false }
     ensures nothing { result ≡ Ok false → store (D.state die.new) map.new book.new seq.new
         ≡ store (D.state die.old) map.old book.old seq.old }
     ensures read_failed { result ≡ Err PutFault.Read → MoveReadFailed (geometry_of (D.state die.old).shape (C.meaning scheme.old) (length map.old))

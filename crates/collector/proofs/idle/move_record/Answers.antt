@@ -2,7 +2,7 @@
 use Rattle.std.proofs.Common.{length}
 use Rattle.std.proofs.lemmas.Result.{err_from_is_err_and}
 use Rattle.collector.specs.Store.{geometry_of}
-use Rattle.collector.proofs.Moving.{is_moving, page_within, unit_within, failed_ends, failed_holds, moving_holds, moved_record, effect_page, effect_block, effect_room, effect_former}
+use Rattle.collector.proofs.Moving.{is_moving, page_within, unit_within, failed_ends, failed_holds, moving_holds, moved_record, moving_may_record}
 use Rattle.collector.proofs.idle.move_record.Goals as goal
 
 pub put_again-requires-clause-unit : goal.put_again-requires-clause-unit
@@ -34,31 +34,31 @@ returns-in_err-put_again-clause-ends g c =
 
 pub record_effect-requires-clause-page : goal.record_effect-requires-clause-page
 record_effect-requires-clause-page g c =
-    effect_page (geometry_of (g.D.Die.state c.args.die.now).shape (g.C.Scheme.meaning c.args.scheme.now) (length c.args.map.now)) (g.C.Scheme.meaning c.args.scheme.now) c.args.live.now c.args.page (g.D.Die.state c.args.die.now) c.args.book.now c.args.map.now c.args.seq.now
+    (moving_may_record (geometry_of (g.D.Die.state c.args.die.now).shape (g.C.Scheme.meaning c.args.scheme.now) (length c.args.map.now)) (g.C.Scheme.meaning c.args.scheme.now) c.args.live.now c.args.page (g.D.Die.state c.args.die.now) c.args.book.now c.args.map.now c.args.seq.now
     (is_moving c.args.work.now (g.C.Scheme.meaning c.args.scheme.now) c.args.live.now c.args.page (g.D.Die.state c.args.die.now) c.args.book.now c.args.map.now c.args.seq.now c.requires.die c.requires.scheme
     (g.met.C.Scheme.decodes c.args.scheme.now) (g.met.D.Die.shaped c.args.die.now) c.requires.tables c.requires.fresh c.requires.live c.requires.next)
-    (g.D.Die.state c.put_again.new.die) c.in_ok-put_again.ensures.ends.0 c.put_again.ensures.kept (g.met.D.Die.shaped c.put_again.new.die) c.in_ok-put_again.ensures.ends.1 c.first_entry.result c.first_entry.ensures.place
+    (g.D.Die.state c.put_again.new.die) c.in_ok-put_again.ensures.ends.0 c.put_again.ensures.kept (g.met.D.Die.shaped c.put_again.new.die) c.first_entry.result c.first_entry.ensures.place).page
 
 pub record_effect-requires-clause-block : goal.record_effect-requires-clause-block
 record_effect-requires-clause-block g c =
-    effect_block (geometry_of (g.D.Die.state c.args.die.now).shape (g.C.Scheme.meaning c.args.scheme.now) (length c.args.map.now)) (g.C.Scheme.meaning c.args.scheme.now) c.args.live.now c.args.page (g.D.Die.state c.args.die.now) c.args.book.now c.args.map.now c.args.seq.now
+    (moving_may_record (geometry_of (g.D.Die.state c.args.die.now).shape (g.C.Scheme.meaning c.args.scheme.now) (length c.args.map.now)) (g.C.Scheme.meaning c.args.scheme.now) c.args.live.now c.args.page (g.D.Die.state c.args.die.now) c.args.book.now c.args.map.now c.args.seq.now
     (is_moving c.args.work.now (g.C.Scheme.meaning c.args.scheme.now) c.args.live.now c.args.page (g.D.Die.state c.args.die.now) c.args.book.now c.args.map.now c.args.seq.now c.requires.die c.requires.scheme
     (g.met.C.Scheme.decodes c.args.scheme.now) (g.met.D.Die.shaped c.args.die.now) c.requires.tables c.requires.fresh c.requires.live c.requires.next)
-    (g.D.Die.state c.put_again.new.die) c.in_ok-put_again.ensures.ends.0 c.put_again.ensures.kept (g.met.D.Die.shaped c.put_again.new.die) c.in_ok-put_again.ensures.ends.1 c.first_entry.result c.first_entry.ensures.place
+    (g.D.Die.state c.put_again.new.die) c.in_ok-put_again.ensures.ends.0 c.put_again.ensures.kept (g.met.D.Die.shaped c.put_again.new.die) c.first_entry.result c.first_entry.ensures.place).block
 
 pub record_effect-requires-clause-room : goal.record_effect-requires-clause-room
 record_effect-requires-clause-room g c =
-    effect_room (geometry_of (g.D.Die.state c.args.die.now).shape (g.C.Scheme.meaning c.args.scheme.now) (length c.args.map.now)) (g.C.Scheme.meaning c.args.scheme.now) c.args.live.now c.args.page (g.D.Die.state c.args.die.now) c.args.book.now c.args.map.now c.args.seq.now
+    (moving_may_record (geometry_of (g.D.Die.state c.args.die.now).shape (g.C.Scheme.meaning c.args.scheme.now) (length c.args.map.now)) (g.C.Scheme.meaning c.args.scheme.now) c.args.live.now c.args.page (g.D.Die.state c.args.die.now) c.args.book.now c.args.map.now c.args.seq.now
     (is_moving c.args.work.now (g.C.Scheme.meaning c.args.scheme.now) c.args.live.now c.args.page (g.D.Die.state c.args.die.now) c.args.book.now c.args.map.now c.args.seq.now c.requires.die c.requires.scheme
     (g.met.C.Scheme.decodes c.args.scheme.now) (g.met.D.Die.shaped c.args.die.now) c.requires.tables c.requires.fresh c.requires.live c.requires.next)
-    (g.D.Die.state c.put_again.new.die) c.in_ok-put_again.ensures.ends.0 c.put_again.ensures.kept (g.met.D.Die.shaped c.put_again.new.die) c.in_ok-put_again.ensures.ends.1 c.first_entry.result c.first_entry.ensures.place
+    (g.D.Die.state c.put_again.new.die) c.in_ok-put_again.ensures.ends.0 c.put_again.ensures.kept (g.met.D.Die.shaped c.put_again.new.die) c.first_entry.result c.first_entry.ensures.place).room
 
 pub record_effect-requires-clause-former : goal.record_effect-requires-clause-former
 record_effect-requires-clause-former g c =
-    effect_former (geometry_of (g.D.Die.state c.args.die.now).shape (g.C.Scheme.meaning c.args.scheme.now) (length c.args.map.now)) (g.C.Scheme.meaning c.args.scheme.now) c.args.live.now c.args.page (g.D.Die.state c.args.die.now) c.args.book.now c.args.map.now c.args.seq.now
+    (moving_may_record (geometry_of (g.D.Die.state c.args.die.now).shape (g.C.Scheme.meaning c.args.scheme.now) (length c.args.map.now)) (g.C.Scheme.meaning c.args.scheme.now) c.args.live.now c.args.page (g.D.Die.state c.args.die.now) c.args.book.now c.args.map.now c.args.seq.now
     (is_moving c.args.work.now (g.C.Scheme.meaning c.args.scheme.now) c.args.live.now c.args.page (g.D.Die.state c.args.die.now) c.args.book.now c.args.map.now c.args.seq.now c.requires.die c.requires.scheme
     (g.met.C.Scheme.decodes c.args.scheme.now) (g.met.D.Die.shaped c.args.die.now) c.requires.tables c.requires.fresh c.requires.live c.requires.next)
-    (g.D.Die.state c.put_again.new.die) c.in_ok-put_again.ensures.ends.0 c.put_again.ensures.kept (g.met.D.Die.shaped c.put_again.new.die) c.in_ok-put_again.ensures.ends.1 c.first_entry.result c.first_entry.ensures.place
+    (g.D.Die.state c.put_again.new.die) c.in_ok-put_again.ensures.ends.0 c.put_again.ensures.kept (g.met.D.Die.shaped c.put_again.new.die) c.first_entry.result c.first_entry.ensures.place).former
 
 pub returns-clause-holds : goal.returns-clause-holds
 returns-clause-holds g c =
@@ -73,7 +73,7 @@ returns-clause-ends g c =
       moved_record (geometry_of (g.D.Die.state c.args.die.now).shape (g.C.Scheme.meaning c.args.scheme.now) (length c.args.map.now)) (g.C.Scheme.meaning c.args.scheme.now) c.args.live.now c.args.page (g.D.Die.state c.args.die.now) c.args.book.now c.args.map.now c.args.seq.now
     (is_moving c.args.work.now (g.C.Scheme.meaning c.args.scheme.now) c.args.live.now c.args.page (g.D.Die.state c.args.die.now) c.args.book.now c.args.map.now c.args.seq.now c.requires.die c.requires.scheme
     (g.met.C.Scheme.decodes c.args.scheme.now) (g.met.D.Die.shaped c.args.die.now) c.requires.tables c.requires.fresh c.requires.live c.requires.next)
-    (g.D.Die.state c.put_again.new.die) c.in_ok-put_again.ensures.ends.0 c.put_again.ensures.kept (g.met.D.Die.shaped c.put_again.new.die) c.record_effect.new.map c.record_effect.new.book c.first_entry.result c.in_ok-put_again.ensures.ends.1 c.first_entry.ensures.entry c.first_entry.ensures.place c.record_effect.ensures.map c.record_effect.ensures.book c.put_again.new.seq c.in_ok-put_again.ensures.ends.3,
+    (g.D.Die.state c.put_again.new.die) c.in_ok-put_again.ensures.ends.0 c.put_again.ensures.kept (g.met.D.Die.shaped c.put_again.new.die) c.first_entry.result c.first_entry.ensures.place c.record_effect.new.map c.record_effect.new.book c.put_again.new.seq c.in_ok-put_again.ensures.ends.1 c.in_ok-put_again.ensures.ends.3 c.first_entry.ensures.entry c.record_effect.ensures.map c.record_effect.ensures.book,
       c.in_ok-put_again.ensures.ends.2,
     )
 
