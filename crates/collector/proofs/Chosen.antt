@@ -1,29 +1,26 @@
 -- The idle victim has a live record, and the first that the map names is the first live one.
-use Rattle.std.proofs.Common.{◌≡◌, ◌≢◌, ◌⊎◌, inl, inr, ℕ, ◌+◌, ◌-◌, ◌*◌, ◌/◌, ◌%◌, ◌^◌, ◌<◌, ◌≤◌, Bool, true, false, max, List, length, drop, ◌&&◌, ◌==◌, nat_lt, if◌then◌else◌, IfNone, Option, Some, None, refl, sym, ap, ap₂, ◌∙◌, arith, subst}
-use Rattle.std.proofs.lemmas.Bool.{cases_lt, cases_Bool, and_parts, eqb-true, ltb-true, lt-ltb, eq-eqb, false≢true}
+use Rattle.std.proofs.Common.{◌≡◌, ◌⊎◌, inl, inr, ℕ, ◌+◌, ◌-◌, ◌*◌, ◌%◌, ◌<◌, ◌≤◌, Bool, true, false, max, List, length, ◌&&◌, ◌==◌, nat_lt, if◌then◌else◌, IfNone, Option, Some, None, refl, sym, ap, ap₂, ◌∙◌, arith, subst}
+use Rattle.std.proofs.lemmas.Bool.{cases_lt, and_parts, eqb-true, ltb-true, lt-ltb, eq-eqb, false≢true}
 use Rattle.std.proofs.lemmas.Option.{same_Some, none-some}
 use Rattle.std.proofs.lemmas.List.{get_or_past}
 use Rattle.std.proofs.lemmas.Nat.{div-add-mod', div-mul-add, mod_below}
 use native.Mathlib.Nat.{mul-le-mul_right, suc-mul}
 use Rattle.zero_count.specs.declared.Header.{Header}
 use Rattle.cell_die.specs.declared.shape.Shape.{Shape}
-use Rattle.cell_die.specs.Cells.{page_at}
-use Rattle.cell_die.specs.DieState.{DieState, page_of}
+use Rattle.cell_die.specs.DieState.{DieState}
 use Rattle.cell_die.specs.Changes.{SameCells}
-use Rattle.cell_die.specs.Calls.{Kept, Passed, PassedWithin, ChangeFailed, ReadFailed}
+use Rattle.cell_die.specs.Calls.{Passed, PassedWithin}
 use Rattle.cell_die.proofs.Sequences.{passed_trans, change_failed_after, read_failed_after, passed_within, change_failed_within, read_failed_within}
-use Rattle.spare_gate.specs.Slots.{header_at}
 use Rattle.striped.specs.Meaning.{Meaning, Decoding}
 use Rattle.sector_map.specs.declared.entry.Entry.{Entry}
 use Rattle.sector_map.specs.declared.entry.Entry.TheVariants.{Held, Zeros}
-use Rattle.sector_map.specs.Entry.{place_of, entry_at}
+use Rattle.sector_map.specs.Entry.{entry_at}
 use Rattle.block_state.specs.declared.state.State.{State}
 use Rattle.block_state.specs.declared.state.State.TheVariants.{Clean, Active}
 use Rattle.block_state.specs.State.{is_closed, is_active, InRange}
-use Rattle.block_state.specs.Book.{BookValue, IsValid, IsClosed, NoneActive, state_at, live_at}
+use Rattle.block_state.specs.Book.{BookValue, IsValid, IsClosed, NoneActive, state_at}
 use Rattle.block_state.specs.Victim.{IsIdleVictim, NoneFits}
 use Rattle.page_codec.specs.declared.place.Place.{Place}
-use Rattle.page_codec.specs.declared.fault.PutFault.{PutFault}
 use Rattle.page_codec.specs.declared.fault.PutFault.TheVariants.{Read, Change}
 use Rattle.page_codec.specs.Geometry.{Geometry, page_count, block_of}
 use Rattle.page_codec.specs.Records.{Placed, header_in, live_record}
@@ -31,17 +28,15 @@ use Rattle.page_codec.specs.Sectors.{says_zeros, stored}
 use Rattle.page_codec.specs.Sizes.{Sizes}
 use Rattle.page_codec.specs.Sound.{live_count, stands_in}
 use Rattle.page_codec.specs.TrueBook.{IsTrue, entry_of}
-use Rattle.page_codec.specs.Units.{reads_of}
 use Rattle.page_codec.proofs.Live.{live_counts}
 use Rattle.collector.specs.declared.live.LiveRecord.{LiveRecord}
-use Rattle.collector.specs.Store.{Store, store, geometry_of, Holds}
+use Rattle.collector.specs.Store.{Store, geometry_of}
 use Rattle.collector.specs.Effects.{recorded, filled}
-use Rattle.collector.specs.Moves.{ComesBefore, IsFirstLive, IsRoom, NoMoveLeft, Moved, MoveReadFailed, MoveChangeFailed, move_reads}
+use Rattle.collector.specs.Moves.{IsFirstLive, NoMoveLeft, Moved, MoveReadFailed, MoveChangeFailed, move_reads}
 use Rattle.collector.specs.Named.{names_slot, named_record, named_in, IsFirstNamed, HasNamed}
 use Rattle.collector.specs.Again.{IsNextPage, IsLive, again, again_reads, MovedRecord, MoveFails}
 use Rattle.collector.proofs.Blanks.{committed_header}
 use Rattle.collector.proofs.Counting.{find_passing, none_pass}
-use Rattle.collector.proofs.Fresh.{holds_after}
 use Rattle.collector.proofs.Room.{live_sector, live_within}
 use Rattle.collector.proofs.Tables.{entry_live}
 

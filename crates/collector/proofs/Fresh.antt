@@ -1,25 +1,24 @@
 -- What every put of a fresh record keeps, whatever its outcome: sound cells, pad cells, and that each valid header stood in its slot
 -- before or was drawn.
-use Rattle.std.proofs.Common.{◌≡◌, ◌≢◌, ◌⊎◌, inl, inr, ℕ, ◌+◌, ◌*◌, ◌^◌, ◌<◌, ◌≤◌, Bool, true, false, List, length, ◌==◌, Option, Some, None, refl, sym, ap, ◌∙◌, arith, subst}
+use Rattle.std.proofs.Common.{◌≡◌, ◌≢◌, ◌⊎◌, inl, inr, ℕ, ◌+◌, ◌^◌, ◌<◌, ◌≤◌, true, false, List, Option, Some, sym, ap, ◌∙◌, arith, subst}
 use Rattle.std.proofs.lemmas.Bool.{cases_eq, cases_lt, cases_Bool, eqb-true, false≢true}
 use Rattle.zero_count.specs.declared.Header.{Header}
 use Rattle.zero_count.specs.HeaderWord.{IsHeader}
-use Rattle.cell_die.specs.declared.shape.Shape.{Shape}
 use Rattle.cell_die.specs.DieState.{DieState, IsShaped}
 use Rattle.cell_die.specs.Pads.{NoPadCharged}
 use Rattle.cell_die.specs.Changes.{SameCells}
 use Rattle.cell_die.specs.Counts.{Stayed}
 use Rattle.cell_die.specs.Calls.{Kept}
-use Rattle.cell_die.proofs.Sequences.{kept_refl, kept_trans}
+use Rattle.cell_die.proofs.Sequences.{kept_trans}
 use Rattle.spare_gate.specs.Slots.{is_gate_charged}
 use Rattle.sector_map.specs.declared.entry.Entry.{Entry}
 use Rattle.block_state.specs.declared.state.State.{State}
 use Rattle.block_state.specs.declared.state.State.TheVariants.{Clean, Active, Used, Recycled, Reused, Spare}
-use Rattle.block_state.specs.State.{is_active, is_spare}
+use Rattle.block_state.specs.State.{is_spare}
 use Rattle.block_state.specs.Book.{BookValue, state_at}
 use Rattle.page_codec.specs.declared.place.Place.{Place}
-use Rattle.page_codec.specs.Geometry.{Geometry, page_count, block_of, shape_of, spare_at}
-use Rattle.page_codec.specs.Records.{Placed, header_in, is_copy, live_record}
+use Rattle.page_codec.specs.Geometry.{Geometry, block_of, shape_of, spare_at}
+use Rattle.page_codec.specs.Records.{header_in, is_copy, live_record}
 use Rattle.page_codec.specs.Sound.{IsSound, live_count, stands_in}
 use Rattle.page_codec.specs.Puts.{Puts, first_slot}
 use Rattle.page_codec.specs.Promises.{HoldsRecord}
@@ -27,7 +26,7 @@ use Rattle.page_codec.specs.TrueBook.{IsTrue, IsTrueState, IsTrueActive, IsNextS
 use Rattle.page_codec.proofs.PutLaws.{PutsCells, header_after, put_keeps_headers, put_keeps_seqs, put_keeps_bound, put_keeps_live, put_wins}
 use Rattle.page_codec.proofs.PutPads.{put_keeps_pads}
 use Rattle.page_codec.proofs.PutCells.{put_cells}
-use Rattle.collector.specs.Store.{Store, store, Holds, DrewSeqs, IsTrueStore}
+use Rattle.collector.specs.Store.{Store, Holds, IsTrueStore}
 use Rattle.collector.proofs.Blanks.{committed_header}
 use Rattle.collector.proofs.Books.{active_within, spare_within}
 use Rattle.collector.proofs.NextPage.{PutsNext, next_page, next_page_within, block_of_next, gate_before, holds_record}
@@ -119,7 +118,7 @@ holds_after g old new mid kept same stayed rest = record {
 
 -- a put on the next page of the Active block, as a call leaves it
 pub next_put : {Content : (ℕ → List ℕ) → Type 0} (g : Geometry) (block fill : ℕ) (h : Header) (old new : DieState) (book : BookValue) (table : List (Option Entry)) (seq : ℕ)
-    → Puts Content 1 (first_slot (next_page g block fill)) h old new → old.shape ≡ shape_of g → new.shape ≡ old.shape → IsShaped old → IsShaped new 
+    → Puts Content 1 (first_slot (next_page g block fill)) h old new → old.shape ≡ shape_of g → new.shape ≡ old.shape → IsShaped old → IsShaped new
     → IsTrue g old.cells book table seq → state_at book block ≡ Active fill → seq < 2 ^ 62 → h.seq ≡ seq → IsHeader h → h.sector < g.sectors → is_copy h ≡ false
     → PutsNext g block fill h old.cells new.cells
 next_put g block fill h old new book table seq p shape same shaped shaped_new t active small drawn header sector single = record {
@@ -174,6 +173,9 @@ pub next_holds : (g : Geometry) (block fill : ℕ) (h : Header) (old new : Store
     → IsTrueStore g old → state_at old.book block ≡ Active fill → old.seq < 2 ^ 62 → h.seq ≡ old.seq → new.seq ≡ old.seq + 1 → Holds g old new
 next_holds g block fill h old new p kept t active small drawn next =
     let free = free_spare g old.die.cells old.book old.table old.seq block fill t active in
-    put_holds g (first_slot (next_page g block fill)) h old new p.put p.header p.fresh kept drawn next (omega arith)
-    (free.0, free.1, free_after g (first_slot (next_page g block fill)) h old.die.cells new.die.cells (next_record g block fill h old.die.cells new.die.cells p) free.0
-        (λ e. free.2 (sym e ∙ block_of_next g block fill p.active.room)) free.3)
+    put_holds g (first_slot (next_page g block fill)) h old new p.put p.header p.fresh kept drawn next (omega arith) (
+      free.0,
+      free.1,
+      free_after g (first_slot (next_page g block fill)) h old.die.cells new.die.cells (next_record g block fill h old.die.cells new.die.cells p) free.0
+          (λ e. free.2 (sym e ∙ block_of_next g block fill p.active.room)) free.3,
+    )

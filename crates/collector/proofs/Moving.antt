@@ -1,10 +1,9 @@
 -- A live record that is put again on the next page of the Active block says the same, so all sectors stay; from its gate on it is
 -- the live one of its sector.
-use Rattle.std.proofs.Common.{◌≡◌, ◌≢◌, ◌⊎◌, inl, inr, ℕ, ◌+◌, ◌-◌, ◌*◌, ◌/◌, ◌^◌, ◌<◌, ◌≤◌, Bool, true, false, List, length, take, drop, slice_set, ◌||◌, ◌==◌, if◌then◌else◌, Option, Some, None, refl, sym, ap, ap₂, ◌∙◌, arith, subst}
+use Rattle.std.proofs.Common.{◌≡◌, ◌⊎◌, inl, inr, ℕ, ◌+◌, ◌*◌, ◌/◌, ◌^◌, ◌<◌, ◌≤◌, Bool, true, false, List, length, take, drop, slice_set, ◌||◌, ◌==◌, if◌then◌else◌, Option, Some, refl, sym, ap, ◌∙◌, arith, subst}
 use Rattle.std.specs.List.{flat_map, range_with_len}
-use Rattle.std.proofs.lemmas.Bool.{cases_eq, cases_Bool, false≢true, eqb-true}
-use Rattle.std.proofs.lemmas.Option.{same_Some}
-use Rattle.std.proofs.lemmas.Nat.{div-add-mod', div-mul-add, div_below, mul-le}
+use Rattle.std.proofs.lemmas.Bool.{cases_Bool}
+use Rattle.std.proofs.lemmas.Nat.{div-add-mod', div_below}
 use native.Mathlib.Nat.{mul-le-mul_right, suc-mul}
 use Rattle.zero_count.specs.declared.Header.{Header}
 use Rattle.zero_count.specs.HeaderWord.{IsHeader}
@@ -12,38 +11,33 @@ use Rattle.zero_count.proofs.Spelled.{spelled_from_read}
 use Rattle.cell_die.specs.declared.shape.Shape.{Shape}
 use Rattle.cell_die.specs.Cells.{page_at, is_blank}
 use Rattle.cell_die.specs.DieState.{DieState, IsShaped, page_of}
-use Rattle.cell_die.specs.Changes.{SameCells}
-use Rattle.cell_die.specs.Calls.{Kept, Passed, ChangeFailed, ReadFailed}
-use Rattle.striped.specs.Meaning.{Meaning, Decoding, Decodes, IsSector}
-use Rattle.spare_gate.specs.Slots.{is_gate_charged, word_at}
+use Rattle.cell_die.specs.Calls.{Kept}
+use Rattle.striped.specs.Meaning.{Meaning, Decodes}
+use Rattle.spare_gate.specs.Slots.{is_gate_charged}
 use Rattle.sector_map.specs.declared.entry.Entry.{Entry}
 use Rattle.sector_map.specs.declared.entry.Entry.TheVariants.{Held, Zeros}
-use Rattle.sector_map.specs.declared.entry.Place2.{Place2}
 use Rattle.sector_map.specs.Entry.{place_of, entry_at}
-use Rattle.block_state.specs.declared.state.State.{State}
-use Rattle.block_state.specs.declared.state.State.TheVariants.{Active}
-use Rattle.block_state.specs.State.{is_active, InRange}
-use Rattle.block_state.specs.Book.{BookValue, state_at, live_at}
+use Rattle.block_state.specs.State.{is_active}
+use Rattle.block_state.specs.Book.{BookValue}
 use Rattle.page_codec.specs.declared.place.Place.{Place}
 use Rattle.page_codec.specs.declared.fault.PutFault.{PutFault}
 use Rattle.page_codec.specs.declared.fault.PutFault.TheVariants.{Read, Change}
-use Rattle.page_codec.specs.Geometry.{Geometry, page_count, block_of, units, unit_page, shape_of, spare_at, main_at, unit_at}
-use Rattle.page_codec.specs.Records.{Placed, header_in, may_hold, is_copy, committed_in, live_record}
+use Rattle.page_codec.specs.Geometry.{Geometry, page_count, block_of, units, shape_of, main_at, unit_at}
+use Rattle.page_codec.specs.Records.{may_hold, is_copy, committed_in, live_record}
 use Rattle.page_codec.specs.Sectors.{said_by, says_zeros, zero_sector, stored}
 use Rattle.page_codec.specs.Sizes.{Sizes, Serves, ServesScheme}
-use Rattle.page_codec.specs.Puts.{Puts, FirstCarries, first_slot, is_gated}
+use Rattle.page_codec.specs.Puts.{Puts, first_slot, is_gated}
 use Rattle.page_codec.specs.TrueBook.{IsTrue, IsTrueState, IsTrueActive, entry_of}
-use Rattle.page_codec.specs.Units.{main_of, unit_main, reads_of, decoded_at}
+use Rattle.page_codec.specs.Units.{reads_of, decoded_at}
 use Rattle.page_codec.proofs.Live.{committed_holds, live_counts, holds_within}
 use Rattle.collector.specs.declared.live.LiveRecord.{LiveRecord}
-use Rattle.collector.specs.Store.{Store, store, geometry_of, Holds}
-use Rattle.collector.specs.Effects.{recorded, filled, after_record, block_in, former_in, MayDrop}
-use Rattle.collector.specs.Moves.{plain_kind}
-use Rattle.collector.specs.Again.{IsNextPage, IsLive, again, again_reads, SaysAgain, PutsAgain, AgainFails, MovedRecord, MoveFails}
+use Rattle.collector.specs.Store.{store, geometry_of, Holds}
+use Rattle.collector.specs.Effects.{recorded, filled, after_record, block_in, former_in}
+use Rattle.collector.specs.Again.{IsNextPage, IsLive, again, SaysAgain, PutsAgain, AgainFails, MovedRecord, MoveFails}
 use Rattle.collector.proofs.Blanks.{committed_header}
 use Rattle.collector.proofs.Books.{active_within}
 use Rattle.collector.proofs.Rows.{rows_same, zeros_say}
-use Rattle.collector.proofs.NextPage.{PutsNext, next_page, next_gate, next_page_within, block_of_next, may_hold_next, none_committed, later_unit, unit_of_page, unit_at_page, some_span, wins_from_gate, stores_from_gate, stored_before_gate}
+use Rattle.collector.proofs.NextPage.{PutsNext, next_page, next_gate, next_page_within, later_unit, unit_of_page, unit_at_page, stores_from_gate, stored_before_gate}
 use Rattle.collector.proofs.Tables.{former_some, entry_true}
 use Rattle.collector.proofs.Recorded.{MayRecord, Recorded, after_active, in_block, next_may_record, next_recorded}
 use Rattle.collector.proofs.Fresh.{next_put, next_holds, same_holds}
@@ -206,7 +200,7 @@ module _ (g : Geometry) (meaning : Meaning) (live : LiveRecord) (page : ℕ) (di
             let whole : page_of new page ≡ p.done page = p.whole (sym gate_is ∙ charged) page in
             let first : meaning.decoding.first (main_at g new.cells page) ≡ decoded_at meaning die live.place
             = m.decodes.first (main_at g new.cells page) (decoded_at meaning die live.place) content.1
-                ((λ i. meaning.decoding.first_carries (take (sym m.main_bytes i) (whole i)) (decoded_at meaning die live.place)) ∙ content.0) in
+            ((λ i. meaning.decoding.first_carries (take (sym m.main_bytes i) (whole i)) (decoded_at meaning die live.place)) ∙ content.0) in
             ap (λ (t : Bool). if t then zero_sector g else meaning.decoding.first (main_at g new.cells (next_page g block fill))) (again_says live.header seq ∙ bytes)
             ∙ (ap (λ (q : ℕ). meaning.decoding.first (main_at g new.cells q)) (sym at_page) ∙ (first ∙ (decoded
             ∙ sym (ap (λ (t : Bool). if t then zero_sector g else (if live.place.slot == 0 then meaning.decoding.first (main_at g die.cells live.place.page) else meaning.decoding.second (unit_at g die.cells live.place.page))) bytes))))

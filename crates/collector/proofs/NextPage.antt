@@ -1,7 +1,7 @@
 -- A record that is no copy is put on the next page of the Active block. Up to its gate all live records and sectors stay; from
 -- its gate on it is the live record of its sector, and no other sector changes.
-use Rattle.std.proofs.Common.{◌≡◌, ◌≢◌, ◌⊎◌, inl, inr, ℕ, ◌+◌, ◌-◌, ◌*◌, ◌/◌, ◌%◌, ◌^◌, ◌<◌, ◌≤◌, Bool, true, false, List, ◌&&◌, ◌||◌, ◌==◌, nat_lt, if◌then◌else◌, Option, Some, None, refl, sym, ap, ap₂, ◌∙◌, arith, subst}
-use Rattle.std.proofs.lemmas.Bool.{cases_eq, cases_lt, cases_Bool, and_parts, or_cases, eqb-true, ltb-true, lt-ltb, eq-eqb, ne_eqb, false≢true}
+use Rattle.std.proofs.Common.{◌≡◌, ◌≢◌, ◌⊎◌, inl, inr, ℕ, ◌+◌, ◌*◌, ◌/◌, ◌%◌, ◌<◌, ◌≤◌, Bool, true, false, List, ◌&&◌, ◌||◌, ◌==◌, nat_lt, if◌then◌else◌, Some, None, sym, ap, ◌∙◌, arith, subst}
+use Rattle.std.proofs.lemmas.Bool.{cases_lt, cases_Bool, and_parts, or_cases, eqb-true, ltb-true, lt-ltb, eq-eqb, false≢true}
 use Rattle.std.proofs.lemmas.Nat.{div-mul-add, div-add-mod', mul-add-lt}
 use Rattle.std.proofs.lemmas.Option.{none-some}
 use native.Mathlib.Nat.{mul-le-mul_right, suc-mul, mul_comm, div-zero}
@@ -9,11 +9,11 @@ use Rattle.zero_count.specs.declared.Header.{Header}
 use Rattle.zero_count.specs.HeaderWord.{IsHeader}
 use Rattle.cell_die.specs.Cells.{page_at, is_blank}
 use Rattle.striped.specs.Meaning.{Decoding}
-use Rattle.spare_gate.specs.Slots.{is_gate_charged, is_slot_blank}
+use Rattle.spare_gate.specs.Slots.{is_gate_charged}
 use Rattle.page_codec.specs.declared.place.Place.{Place}
 use Rattle.page_codec.specs.Geometry.{Geometry, page_count, block_of, units, unit_page, is_unit_page, spare_at}
-use Rattle.page_codec.specs.Records.{Placed, header_in, may_hold, is_copy, committed_in, live_record}
-use Rattle.page_codec.specs.Sectors.{said_by, stored}
+use Rattle.page_codec.specs.Records.{header_in, may_hold, is_copy, committed_in, live_record}
+use Rattle.page_codec.specs.Sectors.{stored}
 use Rattle.page_codec.specs.Gate.{GateWins}
 use Rattle.page_codec.specs.Puts.{first_slot}
 use Rattle.page_codec.specs.Promises.{HoldsRecord}
@@ -21,7 +21,7 @@ use Rattle.page_codec.specs.TrueBook.{IsTrueActive}
 use Rattle.page_codec.proofs.Live.{committed_holds, live_counts}
 use Rattle.page_codec.proofs.Changes.{ungated}
 use Rattle.page_codec.proofs.PutLaws.{PutsCells, put_keeps_live, put_wins}
-use Rattle.page_codec.proofs.PutStored.{NoneReads, StoresOne, pages_read, put_keeps_stored, put_stores}
+use Rattle.page_codec.proofs.PutStored.{NoneReads, StoresOne, put_keeps_stored, put_stores}
 use Rattle.collector.proofs.Blanks.{blank_page_slot, blank_page_gate, blank_slot_header, committed_header}
 
 -- the next page of an Active block

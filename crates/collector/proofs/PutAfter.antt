@@ -1,20 +1,20 @@
 -- A put after calls that change no cell is a put from the cells before them.
-use Rattle.std.proofs.Common.{◌≡◌, ◌≢◌, ◌⊎◌, ℕ, ◌+◌, ◌<◌, ◌≤◌, ◌*◌, ◌^◌, Bool, true, false, if◌then◌else◌, List, length, drop, slice_index, sym, ap, ◌∙◌, arith, subst}
+use Rattle.std.proofs.Common.{◌≡◌, ℕ, ◌+◌, Bool, false, if◌then◌else◌, List, drop, sym, ap, ◌∙◌, arith, subst}
 use Rattle.zero_count.specs.declared.Header.{Header}
 use Rattle.cell_die.specs.Cells.{IsAbove, page_at}
 use Rattle.cell_die.specs.declared.shape.Shape.{Shape}
 use Rattle.cell_die.specs.DieState.{DieState, page_of}
 use Rattle.cell_die.specs.Changes.{SameCells}
-use Rattle.cell_die.specs.Calls.{Kept, Passed, ChangeFailed, ReadFailed}
+use Rattle.cell_die.specs.Calls.{Passed, ChangeFailed, ReadFailed}
 use Rattle.cell_die.proofs.Sequences.{passed_trans, change_failed_after}
 use Rattle.striped.specs.Meaning.{Meaning, IsSector}
 use Rattle.spare_gate.specs.Slots.{with_record}
 use Rattle.page_codec.specs.declared.place.Place.{Place}
-use Rattle.page_codec.specs.Puts.{Puts, FirstCarries, first_slot, is_gated}
+use Rattle.page_codec.specs.Puts.{Puts, FirstCarries, first_slot}
 use Rattle.page_codec.specs.Sectors.{says_zeros}
 use Rattle.page_codec.specs.Units.{reads_of, decoded_at}
 use Rattle.collector.specs.declared.live.LiveRecord.{LiveRecord}
-use Rattle.collector.specs.Again.{again, again_reads, SaysAgain, PutsAgain}
+use Rattle.collector.specs.Again.{again, again_reads, PutsAgain}
 
 pub puts_after : {A B : (ℕ → List ℕ) → Type 0} {span : ℕ} (place : Place) (h : Header) (old mid new : DieState) → SameCells old mid → mid.shape ≡ old.shape
     → (p : Puts A span place h mid new) → B p.done → Puts B span place h old new

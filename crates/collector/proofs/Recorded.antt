@@ -1,6 +1,6 @@
 -- A record on the Active block's next page, from the gate to the end of the record effect: what the effect asks, and what it leaves.
-use Rattle.std.proofs.Common.{◌≡◌, ◌≢◌, ℕ, ◌+◌, ◌*◌, ◌/◌, ◌^◌, ◌<◌, Bool, true, List, length, slice_set, if◌then◌else◌, Option, Some, sym, ap, ◌∙◌, arith, subst}
-use Rattle.std.proofs.lemmas.Nat.{div-mul-add, mul-le}
+use Rattle.std.proofs.Common.{◌≡◌, ◌≢◌, ℕ, ◌+◌, ◌*◌, ◌/◌, ◌<◌, true, List, length, slice_set, if◌then◌else◌, Option, Some, sym, ap, ◌∙◌, arith, subst}
+use Rattle.std.proofs.lemmas.Nat.{mul-le}
 use Rattle.zero_count.specs.declared.Header.{Header}
 use Rattle.striped.specs.Meaning.{Decoding}
 use Rattle.sector_map.specs.declared.entry.Entry.{Entry}
@@ -11,7 +11,7 @@ use Rattle.block_state.specs.declared.state.State.TheVariants.{Active}
 use Rattle.block_state.specs.State.{is_active}
 use Rattle.block_state.specs.Book.{BookValue, state_at, live_at}
 use Rattle.page_codec.specs.Geometry.{Geometry, page_count}
-use Rattle.page_codec.specs.Records.{Placed, live_record}
+use Rattle.page_codec.specs.Records.{live_record}
 use Rattle.page_codec.specs.Sectors.{said_by, stored}
 use Rattle.page_codec.specs.Gate.{GateWins}
 use Rattle.page_codec.specs.Puts.{first_slot}

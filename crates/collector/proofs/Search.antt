@@ -1,7 +1,7 @@
 -- The search for the first record that the map names, slot by slot on each page.
-use Rattle.std.proofs.Common.{◌≡◌, ◌≢◌, ◌⊎◌, inl, inr, ℕ, zero, suc, ◌+◌, ◌-◌, ◌<◌, ◌≤◌, Bool, true, false, List, drop, ◌&&◌, ◌==◌, nat_lt, length, if◌then◌else◌, Option, Some, None, refl, sym, ap, ◌∙◌, arith, subst}
+use Rattle.std.proofs.Common.{◌≡◌, ◌≢◌, ◌⊎◌, inl, inr, ℕ, zero, suc, ◌+◌, ◌-◌, ◌<◌, ◌≤◌, Bool, true, false, List, drop, ◌&&◌, nat_lt, length, if◌then◌else◌, Option, Some, None, refl, sym, ap, ◌∙◌, arith, subst}
 use Rattle.std.specs.Option.{option_or}
-use Rattle.std.proofs.lemmas.Bool.{cases_eq, cases_lt, eq-eqb, ne_eqb}
+use Rattle.std.proofs.lemmas.Bool.{cases_eq, eq-eqb, ne_eqb}
 use Rattle.std.proofs.lemmas.Option.{same_Some, none-some}
 use Rattle.zero_count.specs.declared.Header.{Header}
 use Rattle.cell_die.specs.Cells.{page_at}
@@ -14,11 +14,9 @@ use Rattle.sector_map.specs.declared.entry.Entry.{Entry}
 use Rattle.sector_map.specs.Entry.{entry_at}
 use Rattle.page_codec.specs.declared.place.Place.{Place}
 use Rattle.page_codec.specs.declared.seen.Seen.{Seen}
-use Rattle.page_codec.specs.declared.seen.SeenSlot.{SeenSlot}
 use Rattle.page_codec.specs.Seen.{seen_page, seen_slot, no_slot}
 use Rattle.page_codec.specs.Sizes.{Sizes}
 use Rattle.collector.specs.declared.live.LiveRecord.{LiveRecord}
-use Rattle.collector.specs.Moves.{ComesBefore}
 use Rattle.collector.specs.Named.{names_slot, named_record, named_in, IsFirstNamed, HasNamed}
 
 -- the place of a slot of a page

@@ -1,7 +1,7 @@
 -- After the gate of a record on the Active block's next page, the record effect makes the tables true again.
-use Rattle.std.proofs.Common.{◌≡◌, ◌≢◌, ◌⊎◌, inl, inr, ℕ, zero, suc, ◌+◌, ◌-◌, ◌*◌, ◌/◌, ◌%◌, ◌^◌, ◌<◌, ◌≤◌, Bool, true, false, cond, List, length, drop, map, slice_set, slice_index_or, ◌&&◌, ◌==◌, if◌then◌else◌, Option, Some, None, refl, sym, ap, ap₂, ◌∙◌, arith, subst, get_or-set_same, get_or-set_other, length-set}
+use Rattle.std.proofs.Common.{◌≡◌, ◌≢◌, ◌⊎◌, inl, inr, ℕ, zero, suc, ◌+◌, ◌*◌, ◌/◌, ◌<◌, ◌≤◌, Bool, true, false, List, length, drop, slice_set, slice_index_or, ◌&&◌, ◌==◌, if◌then◌else◌, Option, Some, None, refl, sym, ap, ap₂, ◌∙◌, arith, subst, get_or-set_same, get_or-set_other, length-set}
 use Rattle.std.specs.List.{range_with_len, list_all}
-use Rattle.std.proofs.lemmas.Bool.{cases_eq, cases_lt, cases_Bool, eqb-true, eq-eqb, ne_eqb, false≢true}
+use Rattle.std.proofs.lemmas.Bool.{cases_eq, cases_Bool, eqb-true, eq-eqb, ne_eqb}
 use Rattle.std.proofs.lemmas.List.{same_lists, get_or_default}
 use Rattle.std.proofs.lemmas.List.FromFn.{get_or-map-range_with_len, length-map-range_with_len}
 use Rattle.std.proofs.lemmas.Nat.{div-mul-add, div-add-mod', div_below}
@@ -12,25 +12,25 @@ use Rattle.spare_gate.specs.Slots.{is_slot_blank, with_header, with_record}
 use Rattle.spare_gate.proofs.Blank.{header_keeps_blank, gate_keeps_blank}
 use Rattle.sector_map.specs.declared.entry.Entry.{Entry}
 use Rattle.sector_map.specs.declared.entry.Entry.TheVariants.{Held, Zeros}
-use Rattle.sector_map.specs.Entry.{place_of, entry_at}
+use Rattle.sector_map.specs.Entry.{entry_at}
 use Rattle.block_state.specs.declared.state.State.{State}
 use Rattle.block_state.specs.declared.state.State.TheVariants.{Clean, Active, Used, Recycled, Reused, Spare}
 use Rattle.block_state.specs.State.{is_active, is_spare, InRange}
-use Rattle.block_state.specs.Book.{BookValue, IsValid, IsActive, HasOneSpare, state_at, live_at, with_state}
+use Rattle.block_state.specs.Book.{BookValue, IsValid, HasOneSpare, state_at, live_at, with_state}
 use Rattle.page_codec.specs.declared.place.Place.{Place}
-use Rattle.page_codec.specs.Geometry.{Geometry, page_count, block_of, units, unit_page, spare_at}
-use Rattle.page_codec.specs.Records.{Placed, header_in, may_hold, committed_in, live_record}
+use Rattle.page_codec.specs.Geometry.{Geometry, block_of, units, unit_page, spare_at}
+use Rattle.page_codec.specs.Records.{Placed, may_hold, committed_in, live_record}
 use Rattle.page_codec.specs.Sectors.{says_zeros}
 use Rattle.page_codec.specs.Sound.{live_count, stands_in}
 use Rattle.page_codec.specs.Gate.{GateWins}
 use Rattle.page_codec.specs.Puts.{first_slot}
-use Rattle.page_codec.specs.TrueBook.{IsTrue, IsTrueState, IsTrueActive, IsTrueUsed, IsTrueRecycled, IsTrueSpare, IsNextSeq, HasSizes, UnitSlotBlank, BlankAbove, is_block_blank, entry_of, live_map}
+use Rattle.page_codec.specs.TrueBook.{IsTrue, IsTrueState, IsTrueActive, IsTrueUsed, UnitSlotBlank, BlankAbove, is_block_blank, entry_of, live_map}
 use Rattle.page_codec.proofs.PutLaws.{header_after}
-use Rattle.collector.specs.Effects.{former_in, recorded, filled, fill_of, after_record, block_in, MayDrop}
-use Rattle.collector.proofs.Counting.{count_below, one_if, count_moves, none_pass, none_passes, one_passes}
+use Rattle.collector.specs.Effects.{former_in, recorded, filled, fill_of, MayDrop}
+use Rattle.collector.proofs.Counting.{one_if, count_moves, none_pass, none_passes, one_passes}
 use Rattle.collector.proofs.Books.{SameStates, state_here, state_there, active_within, valid_state, spare_stays, recorded_states, valid_recorded, one_at, one_in, recorded_live}
 use Rattle.collector.proofs.Room.{live_within, has_room}
-use Rattle.collector.proofs.NextPage.{PutsNext, next_page, next_gate, next_page_within, block_of_next, may_hold_next, none_committed, wins_from_gate, some_span}
+use Rattle.collector.proofs.NextPage.{PutsNext, next_page, next_gate, block_of_next, may_hold_next, none_committed, wins_from_gate, some_span}
 
 -- ---- the map
 

@@ -1,5 +1,5 @@
 -- A live record is put again: on the next page of the Active block, with the next seq, saying the same.
-use Rattle.std.specs.Prelude.{◌≡◌, ◌≢◌, ℕ, ◌+◌, ◌-◌, ◌*◌, ◌<◌, ◌≤◌, ◌==◌, true, false, List, if◌then◌else◌, Result, Ok, Err, Some}
+use Rattle.std.specs.Prelude.{◌≡◌, ◌≢◌, ℕ, ◌+◌, ◌-◌, ◌*◌, ◌<◌, true, false, List, if◌then◌else◌, Result, Ok, Err, Some}
 use Rattle.zero_count.specs.declared.Header.{Header}
 use Rattle.cell_die.specs.DieState.{DieState}
 use Rattle.cell_die.specs.Changes.{SameCells}
@@ -10,7 +10,7 @@ use Rattle.block_state.specs.Book.{BookValue, state_at}
 use Rattle.page_codec.specs.declared.fault.PutFault.{PutFault}
 use Rattle.page_codec.specs.declared.fault.PutFault.TheVariants.{Read, Change}
 use Rattle.page_codec.specs.Geometry.{Geometry, block_of}
-use Rattle.page_codec.specs.Records.{Placed, live_record}
+use Rattle.page_codec.specs.Records.{live_record}
 use Rattle.page_codec.specs.Sectors.{says_zeros}
 use Rattle.page_codec.specs.Puts.{Puts, FirstCarries, first_slot, is_gated}
 use Rattle.page_codec.specs.Units.{reads_of, decoded_at}

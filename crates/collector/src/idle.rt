@@ -86,7 +86,12 @@ fn move_record<D: Die, C: Scheme>(
     ensures same_work { work.new ≡ work.old }
 {
     put_again(die, scheme, work, live, page, seq)?;
-    record_effect(map, book, live.header.sector, first_entry(page, &live.header));
+    record_effect(
+        map,
+        book,
+        live.header.sector,
+        first_entry(page, &live.header),
+    );
     Ok(())
 }
 

@@ -7,12 +7,11 @@ ghost use Rattle.cell_die.specs.Calls.{Kept, Passed, ReadFailed};
 ghost use Rattle.page_codec.specs.Sizes.{Serves};
 ghost use Rattle.collector.specs.Named.{names_slot, named_record, IsFirstNamed, HasNamed};
 
+use crate::effect::place_named;
 use cell_die::{Die, DieFault};
 use page_codec::{Place, Seen, SeenSlot, Work, scan};
 use sector_map::{Entry, SectorMap};
 use zero_count::Header;
-
-use crate::effect::place_named;
 
 /// A live record, and the slot that it stands in.
 #[derive(Clone, Copy, Debug, PartialEq, Eq)]

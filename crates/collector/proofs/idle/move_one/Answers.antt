@@ -1,13 +1,13 @@
 -- The first record of the victim that the map names is its first live one, and reads before its move change no cell.
-use Rattle.std.proofs.Common.{◌≡◌, ◌∙◌, ◌<◌, ◌*◌, ℕ, length, refl, sym, ap, subst, arith, ◌+◌, ◌≤◌}
+use Rattle.std.proofs.Common.{◌≡◌, ◌∙◌, ◌<◌, ◌*◌, ℕ, length, refl, sym, subst, arith, ◌+◌, ◌≤◌}
 use Rattle.std.proofs.lemmas.Result.{err_from_is_err_and}
 use Rattle.page_codec.specs.declared.fault.PutFault.{PutFault}
-use Rattle.page_codec.specs.declared.fault.PutFault.TheVariants.{Change}
+use Rattle.page_codec.specs.declared.fault.PutFault.TheVariants.{Read, Change}
 use Rattle.page_codec.specs.Geometry.{Geometry}
 use Rattle.collector.specs.Store.{geometry_of, store, Holds}
 use Rattle.collector.specs.Again.{MovedRecord, MoveFails}
 use Rattle.collector.proofs.Fresh.{holds_after}
-use Rattle.collector.proofs.Chosen.{from_none, none_left, closed_within, block_pages, has_named, first_live, named_live, moved_one, change_failed_one, some_pages, one_left, same_geometry, first_at, named_at, passed_at, live_after_reads}
+use Rattle.collector.proofs.Chosen.{from_none, none_left, closed_within, block_pages, has_named, first_live, moved_one, change_failed_one, read_failed_one, some_pages, one_left, same_geometry, first_at, named_at, passed_at, live_after_reads}
 use Rattle.collector.proofs.idle.move_one.Goals as goal
 
 pub returns-in_default-idle_victim-clause-none : goal.returns-in_default-idle_victim-clause-none
@@ -75,3 +75,13 @@ returns-in_err-move_record-clause-none_alone g c none =
 pub returns-clause-none_alone : goal.returns-clause-none_alone
 returns-clause-none_alone g c none =
     absurd (one_left c.args.book.now c.in-Some.next.page c.in-Some.next.room c.in-Some-idle_victim.victim c.in-Some.ensures.some c.in-Some-idle_victim.ensures.found none)
+
+pub returns-in_err-move_record-clause-read_failed : goal.returns-in_err-move_record-clause-read_failed
+returns-in_err-move_record-clause-read_failed g c =
+    λ is.
+    let q = err_from_is_err_and c.from_residual.result c.from_residual.ensures.1 in
+    let fault : c.in_err-move_record.field-0.0 ≡ Read = cc in
+    read_failed_one (geometry_of (g.D.Die.state c.args.die.now).shape (g.C.Scheme.meaning c.args.scheme.now) (length c.args.map.now)) (g.C.Scheme.meaning c.args.scheme.now) (store (g.D.Die.state c.args.die.now) c.args.map.now c.args.book.now c.args.seq.now) (store (g.D.Die.state c.move_record.new.die) c.move_record.new.map c.move_record.new.book c.move_record.new.seq) (g.D.Die.state c.find_first.new.die) (c.in-Some-idle_victim.victim * (g.D.Die.state c.args.die.now).shape.pages) c.in-Ok.live refl c.find_first.ensures.same_cells (passed_at (g.D.Die.state c.args.die.now) (g.D.Die.state c.find_first.new.die) c.in-Ok.live.place.page c.in-Some-idle_victim.victim c.pages-pages.result (g.D.Die.state c.args.die.now).shape.pages (c.pages-pages.ensures.value ∙ c.requires.tables.sizes.pages) c.in-Ok.ensures.passed)
+    (first_at c.args.map.now c.args.work.now (g.D.Die.state c.args.die.now) c.in-Some-idle_victim.victim c.pages-pages.result (g.D.Die.state c.args.die.now).shape.pages c.in-Ok.live (c.pages-pages.ensures.value ∙ c.requires.tables.sizes.pages) c.in-Ok.ensures.found).low (first_at c.args.map.now c.args.work.now (g.D.Die.state c.args.die.now) c.in-Some-idle_victim.victim c.pages-pages.result (g.D.Die.state c.args.die.now).shape.pages c.in-Ok.live (c.pages-pages.ensures.value ∙ c.requires.tables.sizes.pages) c.in-Ok.ensures.found).high
+    (subst (λ (h : Geometry). MoveFails h (g.C.Scheme.meaning c.args.scheme.now) c.in-Ok.live Read (store (g.D.Die.state c.find_first.new.die) c.args.map.now c.args.book.now c.args.seq.now) (store (g.D.Die.state c.move_record.new.die) c.move_record.new.map c.move_record.new.book c.move_record.new.seq)) (same_geometry (g.D.Die.state c.args.die.now).shape (g.D.Die.state c.find_first.new.die).shape (g.C.Scheme.meaning c.args.scheme.now) (length c.args.map.now) c.find_first.ensures.kept.shape)
+    (subst (λ (f : PutFault). MoveFails (geometry_of (g.D.Die.state c.find_first.new.die).shape (g.C.Scheme.meaning c.args.scheme.now) (length c.args.map.now)) (g.C.Scheme.meaning c.args.scheme.now) c.in-Ok.live f (store (g.D.Die.state c.find_first.new.die) c.args.map.now c.args.book.now c.args.seq.now) (store (g.D.Die.state c.move_record.new.die) c.move_record.new.map c.move_record.new.book c.move_record.new.seq)) fault c.in_err-move_record.ensures.ends))

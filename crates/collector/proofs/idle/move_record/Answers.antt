@@ -68,12 +68,10 @@ returns-clause-holds g c =
     (g.D.Die.state c.put_again.new.die) c.in_ok-put_again.ensures.ends.0 c.put_again.ensures.kept (g.met.D.Die.shaped c.put_again.new.die) c.record_effect.new.map c.record_effect.new.book c.put_again.new.seq c.in_ok-put_again.ensures.ends.3
 
 pub returns-clause-ends : goal.returns-clause-ends
-returns-clause-ends g c =
-    (
-      moved_record (geometry_of (g.D.Die.state c.args.die.now).shape (g.C.Scheme.meaning c.args.scheme.now) (length c.args.map.now)) (g.C.Scheme.meaning c.args.scheme.now) c.args.live.now c.args.page (g.D.Die.state c.args.die.now) c.args.book.now c.args.map.now c.args.seq.now
-    (is_moving c.args.work.now (g.C.Scheme.meaning c.args.scheme.now) c.args.live.now c.args.page (g.D.Die.state c.args.die.now) c.args.book.now c.args.map.now c.args.seq.now c.requires.die c.requires.scheme
-    (g.met.C.Scheme.decodes c.args.scheme.now) (g.met.D.Die.shaped c.args.die.now) c.requires.tables c.requires.fresh c.requires.live c.requires.next)
-    (g.D.Die.state c.put_again.new.die) c.in_ok-put_again.ensures.ends.0 c.put_again.ensures.kept (g.met.D.Die.shaped c.put_again.new.die) c.first_entry.result c.first_entry.ensures.place c.record_effect.new.map c.record_effect.new.book c.put_again.new.seq c.in_ok-put_again.ensures.ends.1 c.in_ok-put_again.ensures.ends.3 c.first_entry.ensures.entry c.record_effect.ensures.map c.record_effect.ensures.book,
-      c.in_ok-put_again.ensures.ends.2,
-    )
-
+returns-clause-ends g c = (
+  moved_record (geometry_of (g.D.Die.state c.args.die.now).shape (g.C.Scheme.meaning c.args.scheme.now) (length c.args.map.now)) (g.C.Scheme.meaning c.args.scheme.now) c.args.live.now c.args.page (g.D.Die.state c.args.die.now) c.args.book.now c.args.map.now c.args.seq.now
+      (is_moving c.args.work.now (g.C.Scheme.meaning c.args.scheme.now) c.args.live.now c.args.page (g.D.Die.state c.args.die.now) c.args.book.now c.args.map.now c.args.seq.now c.requires.die c.requires.scheme
+      (g.met.C.Scheme.decodes c.args.scheme.now) (g.met.D.Die.shaped c.args.die.now) c.requires.tables c.requires.fresh c.requires.live c.requires.next)
+      (g.D.Die.state c.put_again.new.die) c.in_ok-put_again.ensures.ends.0 c.put_again.ensures.kept (g.met.D.Die.shaped c.put_again.new.die) c.first_entry.result c.first_entry.ensures.place c.record_effect.new.map c.record_effect.new.book c.put_again.new.seq c.in_ok-put_again.ensures.ends.1 c.in_ok-put_again.ensures.ends.3 c.first_entry.ensures.entry c.record_effect.ensures.map c.record_effect.ensures.book,
+  c.in_ok-put_again.ensures.ends.2,
+)

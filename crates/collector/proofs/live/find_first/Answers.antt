@@ -1,8 +1,6 @@
 -- The page that was scanned last has the first record that the map names, or none, and then the search goes on.
-use Rattle.std.proofs.Common.{◌≡◌, ◌<◌, ◌+◌, Some, None, sym, ◌∙◌, arith, rules}
-use Rattle.page_codec.specs.Seen.{seen_page}
-use Rattle.cell_die.specs.DieState.{page_of}
-use Rattle.collector.proofs.Search.{IsFirstOn, first_seen, seen_of, one_seen, first_found, searched_more, searched_passed, none_is}
+use Rattle.std.proofs.Common.{Some, None, sym, ◌∙◌, arith, rules}
+use Rattle.collector.proofs.Search.{seen_of, one_seen, first_found, searched_more, searched_passed, none_is}
 use Rattle.collector.proofs.live.find_first.Goals as goal
 
 pub returns-in-Some-clause-found : goal.returns-in-Some-clause-found
