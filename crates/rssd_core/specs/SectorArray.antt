@@ -1,6 +1,5 @@
 -- The sector array that a device stands for: a list of rows, one a sector.
-use Rattle.std.specs.Prelude.{ℕ, ◌-◌, ◌==◌, List, ◌++◌, length, take, replicate, slice_set}
-use Rattle.std.specs.List.{suffix_len}
+use Rattle.std.specs.Prelude.{ℕ, ◌-◌, ◌&&◌, ◌==◌, Bool, true, false, List, [], ◌∷◌, ◌++◌, length, replicate, slice_set, if◌then◌else◌}
 
 -- shorter bytes are filled up with zero bytes
 abbrev pub filled_up : ℕ → List ℕ → List ℕ
@@ -14,6 +13,16 @@ written sector_bytes rows sector bytes = slice_set rows sector (filled_up sector
 abbrev pub trimmed : ℕ → List (List ℕ) → ℕ → List (List ℕ)
 trimmed sector_bytes rows sector = slice_set rows sector (replicate sector_bytes 0)
 
--- bytes without the zero bytes at their end
+-- there are no bytes
+abbrev pub is_empty : List ℕ → Bool
+is_empty [] = true
+is_empty (byte ∷ bytes) = false
+
+-- the byte, and then the others, unless all are zero
+abbrev pub unless_zeros : ℕ → List ℕ → List ℕ
+unless_zeros byte others = if is_empty others && (byte == 0) then [] else byte ∷ others
+
+-- the bytes without the zeros at the end
 abbrev pub without_zeros : List ℕ → List ℕ
-without_zeros bytes = take (length bytes - suffix_len (λ byte. byte == 0) bytes) bytes
+without_zeros [] = []
+without_zeros (byte ∷ bytes) = unless_zeros byte (without_zeros bytes)

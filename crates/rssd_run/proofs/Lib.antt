@@ -2,3 +2,13 @@ pub mod Zeros
 pub mod MoreLines
 pub mod OneLine
 pub mod Limits
+pub mod Came
+pub mod Parts
+pub mod Still
+pub mod WriteSteps
+pub mod LineSteps
+pub mod MountSteps
+pub mod CommandSteps
+pub mod Stepped
+pub mod Sessions
+pub mod Runs
