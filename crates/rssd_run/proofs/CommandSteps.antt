@@ -45,7 +45,7 @@ idle_plus d base n old new changes reads w = record {
 moves_plus : (d : Numbers) (base : Tallies) (old new : DeviceView) (k : ℕ) → IdleMoves d old new k → IdleMoves d (plus base old) (plus base new) k
 moves_plus d base old new k m = (m.0, m.1, m.2, m.3, m.4, record { distinct = m.5.distinct; moved = m.5.moved; others = m.5.others })
 
-bounded : {changes reads : ℕ} {old new : DieState} → PassedWithin changes reads old new → Went changes reads (Unit {0}) old new
+pub bounded : {changes reads : ℕ} {old new : DieState} → PassedWithin changes reads old new → Went changes reads (Unit {0}) old new
 bounded within = record { within = within; exact = λ not. absurd (not tt) }
 
 pub trimmed_step : (d : Numbers) (base : Tallies) (old new : DeviceValue) (sector : ℕ) → sector < d.geometry.sectors → TellsPower old.view.die → Holds d old new

@@ -10,5 +10,6 @@ pub mod LineSteps
 pub mod MountSteps
 pub mod CommandSteps
 pub mod Stepped
+pub mod Refused
 pub mod Sessions
 pub mod Runs

@@ -5,7 +5,7 @@ use Rattle.cell_die.specs.Changes.{SameCells}
 use Rattle.cell_die.specs.Calls.{Passed, ReadFailed}
 use Rattle.cell_die.specs.Counts.{Rose}
 use Rattle.cell_die.specs.Power.{told, with_power}
-use Rattle.page_codec.specs.Geometry.{page_count}
+use Rattle.page_codec.specs.Geometry.{page_count, shape_of}
 use Rattle.page_codec.specs.Sound.{live_count}
 use Rattle.rssd_script.specs.declared.lines.Line.{Line}
 use Rattle.rssd_script.specs.declared.lines.Line.TheVariants.{Mount}
@@ -239,12 +239,12 @@ no_memory_step d before stands small_first small_second small_declined small =
       armed = record { arms = tt; lowers = λ a f. lowers; fault = λ h. cc };
     }
 
-pub mounts_done : (d : Numbers) (die : DieState) (new : DeviceValue) → Mounts d (told with_power die) new → Tells die → MountDone d die new
-mounts_done d die new m tells =
+pub mounts_done : (d : Numbers) (die : DieState) (new : DeviceValue) → die.shape ≡ shape_of d.geometry → Mounts d (told with_power die) new → Tells die → MountDone d die new
+mounts_done d die new shape m tells =
     let powered : DieState = told with_power die in
     let power : TellsPower new.view.die = went_power powered new.view.die (power_given die tells) (passed_went {Bounded = ⊥} m.calls) in
     record {
-      kept = record { numbers = m.numbers; tells = power_tells new.view.die power; power = λ r. power; book = m.true_book };
+      kept = record { numbers = m.numbers; shape = m.kept.shape ∙ shape; tells = power_tells new.view.die power; power = λ r. power; book = m.true_book };
       running = m.running;
       step = λ before is_die stands small. mount_step d before new stands small (rw is_die tells) (rw is_die m);
     }

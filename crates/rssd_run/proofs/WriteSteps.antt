@@ -35,11 +35,11 @@ pub record Tried (d : Numbers) (old : DeviceValue) (sector : ℕ) (bytes : List 
   pub fits : length bytes ≤ d.geometry.sector_bytes
   pub numbers : old.view.seq < 2 ^ 62
 
-abbrev sector_in : Line → ℕ
+abbrev pub sector_in : Line → ℕ
 sector_in (Write sector bytes) = sector
 sector_in line = 0
 
-abbrev bytes_in : Line → List ℕ
+abbrev pub bytes_in : Line → List ℕ
 bytes_in (Write sector bytes) = bytes
 bytes_in line = []
 

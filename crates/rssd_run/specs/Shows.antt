@@ -1,25 +1,78 @@
 -- Which views a session stands for.
-use Rattle.std.specs.Prelude.{◌≡◌, ℕ, List}
+use Rattle.std.specs.Prelude.{◌≡◌, ℕ, ◌≤◌, List}
 use Rattle.cell_die.specs.DieState.{DieState}
+use Rattle.page_codec.specs.Geometry.{shape_of}
+use Rattle.rssd_core.specs.declared.device.Plan.{Plan}
 use Rattle.rssd_core.specs.DeviceValue.{Numbers, DeviceValue, rows_of}
+use Rattle.rssd_core.specs.Failures.{Tells}
+use Rattle.rssd_core.specs.Mount.{Fits, numbers_of}
 use Rattle.rssd_script.specs.declared.lines.Line.{Line}
+use Rattle.rssd_script.specs.declared.lines.Line.TheVariants.{Cut, FailRead, Mount, Stat}
 use Rattle.rssd_script.specs.declared.replies.Reply.{Reply}
 use Rattle.rssd_run.specs.View.{View, Event, IsOff, StandsFor}
-use Rattle.rssd_run.specs.Held.{Tallies, plus, tallies_of}
-use Rattle.rssd_run.specs.Steps.{ArrayIs}
+use Rattle.rssd_run.specs.Held.{Tallies, plus, tallies_of, Calm}
+use Rattle.rssd_run.specs.Steps.{ArrayIs, IsKept}
 use Rattle.rssd_run.specs.Step.{IsStep}
 
--- a session has a device, or after a mount that was refused a die alone
+-- What a session has: a device; or, after a mount that was refused, a die alone, on which a device would have these numbers;
+-- or nothing, while it mounts.
 pub data Holding : Type 0 where
   Mounted : (device : DeviceValue) → Holding
-  Closed : (die : DieState) → Holding
+  Closed : (numbers : Numbers) (die : DieState) → Holding
+  Nothing : Holding
 
--- base: the tallies of the devices that the session had before. One that is on stands for exactly one view.
-abbrev pub Shows : Numbers → Tallies → Holding → View → Type 0
-Shows d base (Mounted device) view = (view.device ≡ plus base device.view) × ArrayIs device.stopped (rows_of d device.view) view.array
-Shows d base (Closed die) view = (view.device.die ≡ die) × (tallies_of view.device ≡ base) × IsOff view.array × StandsFor d view
+-- a session, and the tallies of the devices that it had before
+pub record SessionValue : Type 0 where
+  pub base : Tallies
+  pub holding : Holding
 
--- From each view that the session stood for, the line and its reply are a step to one that it stands for. (The clause of `step`, under Calm.)
-abbrev pub StepsSession : Numbers → (line : Line) (reply : Reply) → Tallies → Holding → Tallies → Holding → Type 0
-StepsSession d line reply base old base_after new =
-    (before : View) → Shows d base old before → (after : View) × Shows d base_after new after × IsStep d (record { line = line; reply = reply; before = before; after = after })
+-- the device of the session has these numbers
+abbrev pub HasNumbers : Numbers → Holding → Type 0
+HasNumbers d (Mounted device) = device.numbers ≡ d
+HasNumbers d (Closed numbers die) = numbers ≡ d
+HasNumbers d Nothing = ⊥
+
+-- the session's die
+abbrev pub HasDie : DieState → Holding → Type 0
+HasDie die (Mounted device) = device.view.die ≡ die
+HasDie die (Closed numbers other) = other ≡ die
+HasDie die Nothing = ⊥
+
+abbrev pub ShowsHolding : Numbers → Tallies → Holding → View → Type 0
+ShowsHolding d base (Mounted device) view = (view.device ≡ plus base device.view) × ArrayIs device.stopped (rows_of d device.view) view.array
+ShowsHolding d base (Closed numbers die) view = (view.device.die ≡ die) × (tallies_of view.device ≡ base) × IsOff view.array × StandsFor d view
+ShowsHolding d base Nothing view = ⊥
+
+-- The views that a session stands for. One that is on stands for exactly one.
+abbrev pub Shows : Numbers → SessionValue → View → Type 0
+Shows d session view = ShowsHolding d session.base session.holding view
+
+-- From each view that the session stood for, the line and its reply are a step to one that it stands for, over sound cells
+-- or with no cut armed.
+abbrev pub StepsSession : Numbers → Line → Reply → SessionValue → SessionValue → Type 0
+StepsSession d line reply old new =
+    (before : View) → Shows d old before → Calm d before.device.die
+    → (after : View) × Shows d new after × IsStep d (record { line = line; reply = reply; before = before; after = after })
+
+-- a line that may be stepped: one that arms a failure names at least the next call
+abbrev pub CanStep : Line → Type 0
+CanStep (Cut n torn) = 1 ≤ n
+CanStep (FailRead n) = 1 ≤ n
+CanStep _ = Unit {0}
+
+-- a line that a device answers
+abbrev pub IsDeviceLine : Line → Type 0
+IsDeviceLine Mount = ⊥
+IsDeviceLine Stat = ⊥
+IsDeviceLine _ = Unit {0}
+
+-- the die of these numbers fits the plan, which gives them
+pub record IsPlanned (d : Numbers) (plan : Plan) : Type 0 where
+  pub fits : Fits (shape_of d.geometry) d.meaning plan
+  pub numbers : numbers_of (shape_of d.geometry) d.meaning plan ≡ d
+
+-- what a session keeps of what it has
+abbrev pub IsHeld : Plan → Holding → Type 0
+IsHeld plan (Mounted device) = IsPlanned device.numbers plan × IsKept device.numbers device
+IsHeld plan (Closed numbers die) = IsPlanned numbers plan × (die.shape ≡ shape_of numbers.geometry) × Tells die
+IsHeld plan Nothing = ⊥

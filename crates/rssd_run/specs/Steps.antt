@@ -12,7 +12,8 @@ use Rattle.rssd_core.specs.declared.device.MountError.{MountError}
 use Rattle.rssd_core.specs.declared.device.MountError.TheVariants.{OutOfMemory, Shape as BadShape, DieFault, NoSpare as NoSpareError}
 use Rattle.rssd_script.specs.declared.lines.Line.TheVariants.{Mount}
 use Rattle.rssd_script.specs.declared.replies.Reply.TheVariants.{Done, Fault, NoSpare, NoMemory}
-use Rattle.rssd_run.specs.Held.{Tallies, tallies_of, on, off, refused}
+use Rattle.page_codec.specs.Geometry.{shape_of}
+use Rattle.rssd_run.specs.Held.{Tallies, tallies_of, on, off, refused, Calm}
 use Rattle.rssd_run.specs.Step.{IsStep}
 
 -- the array of a device that runs, and of one that is stopped
@@ -23,14 +24,16 @@ ArrayIs true rows array = IsOff array × IsArrayOf rows array
 -- what a session knows of its device between two lines
 pub record IsKept (d : Numbers) (device : DeviceValue) : Type 0 where
   pub numbers : device.numbers ≡ d
+  pub shape : device.view.die.shape ≡ shape_of d.geometry
   pub tells : Tells device.view.die
   pub power : device.stopped ≡ false → TellsPower device.view.die
   pub book : TrueWhileRunning d device
 
--- from each view that a running device stood for, the line and its reply are a step to one that it stands for
+-- From each view that a running device stood for, the line and its reply are a step to one that it stands for, over sound
+-- cells or with no cut armed.
 pub record Steps (d : Numbers) (line : Line) (reply : Reply) (old new : DeviceValue) : Type 0 where
   pub kept : IsKept d new
-  pub step : (base : Tallies) → (array : ArrayState) × ArrayIs new.stopped (rows_of d new.view) array
+  pub step : Calm d old.view.die → (base : Tallies) → (array : ArrayState) × ArrayIs new.stopped (rows_of d new.view) array
       × IsStep d (record { line = line; reply = reply; before = on d base old; after = off base new array })
 
 -- the reply to a mount that was refused so (a bad shape never comes)
@@ -40,13 +43,14 @@ refusal_reply BadShape = NoMemory
 refusal_reply DieFault = Fault
 refusal_reply NoSpareError = NoSpare
 
--- a mount over a die that tells, from any view with this die
+-- a mount over this die, from any view with it
 pub record MountDone (d : Numbers) (die : DieState) (new : DeviceValue) : Type 0 where
   pub kept : IsKept d new
   pub running : new.stopped ≡ false
   pub step : (before : View) → before.device.die ≡ die → StandsFor d before → before.device.moved < 2 ^ 64
       → IsStep d (record { line = Mount; reply = Done; before = before; after = on d (tallies_of before.device) new })
 
+-- a mount that was refused
 pub record MountRefused (d : Numbers) (die new : DieState) (why : MountError) : Type 0 where
   pub tells : Tells new
   pub shape : new.shape ≡ die.shape
