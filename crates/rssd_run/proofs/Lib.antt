@@ -13,3 +13,5 @@ pub mod Stepped
 pub mod Refused
 pub mod Sessions
 pub mod Runs
+pub mod Errors
+pub mod Rows

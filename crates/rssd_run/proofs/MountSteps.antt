@@ -13,7 +13,10 @@ use Rattle.rssd_script.specs.declared.replies.Reply.TheVariants.{Done, Fault, No
 use Rattle.rssd_core.specs.DeviceValue.{Numbers, DeviceView, DeviceValue, rows_of}
 use Rattle.rssd_core.specs.Failures.{Lowers, Tells, TellsPower, CutCame, ReadFailureCame, cut_of, form_of, read_failure_of}
 use Rattle.rssd_core.specs.Within.{Went}
-use Rattle.rssd_core.specs.Mount.{IsMountedView, EveryBlockLive, Mounts, MountFails, NoSpareFound, Refuses}
+use Rattle.cell_die.specs.declared.shape.Shape.{Shape}
+use Rattle.striped.specs.Meaning.{Meaning}
+use Rattle.rssd_core.specs.declared.device.Plan.{Plan}
+use Rattle.rssd_core.specs.Mount.{numbers_of, Fits, IsMountedView, EveryBlockLive, Mounts, MountFails, NoSpareFound, Refuses}
 use Rattle.rssd_core.specs.declared.device.MountError.{MountError}
 use Rattle.rssd_core.specs.declared.device.MountError.TheVariants.{OutOfMemory, Shape as BadShape, DieFault, NoSpare as NoSpareError}
 use Rattle.rssd_run.specs.Steps.{IsKept, MountDone, MountRefused, refusal_reply}
@@ -273,3 +276,7 @@ mount_refused d die new NoSpareError fits r tells =
       shape = r.kept.shape;
       step = λ before is_die stands f s e m. no_spare_step d before new stands f s e m (rw is_die tells) (rw is_die r.calls) (rw is_die same) (rw is_die r.full);
     }
+
+-- a die that a device fits has the shape of the device's numbers
+pub shape_is : (shape : Shape) (meaning : Meaning) (plan : Plan) → Fits shape meaning plan → shape ≡ shape_of (numbers_of shape meaning plan).geometry
+shape_is shape meaning plan fits = λ i. record shape { spare_bytes = fits.spare_bytes i }
