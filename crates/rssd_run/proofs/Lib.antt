@@ -12,6 +12,7 @@ pub mod CommandSteps
 pub mod Stepped
 pub mod Refused
 pub mod Sessions
+pub mod Fields
 pub mod Runs
 pub mod Errors
 pub mod Rows

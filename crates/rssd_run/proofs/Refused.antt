@@ -15,6 +15,7 @@ use Rattle.rssd_run.specs.Moves.{BookMoves, ByRules, MayChange, RisesBy}
 use Rattle.rssd_run.specs.Placing.{IsTried, PlacedExactly}
 use Rattle.rssd_run.specs.Step.{IsStep, RefusedExactly, OutOfRange, TooLong, NumbersSpent, AlwaysAnswered, firsts, seconds, declines, IdleAnswer, StatAnswer, TrueWhileOn}
 use Rattle.rssd_run.specs.Steps.{IsKept, Steps}
+use Rattle.rssd_run.specs.Shows.{stat_of}
 use Rattle.rssd_run.proofs.Came.{none_came}
 use Rattle.rssd_run.proofs.Parts.{no_fault, keeps_same, not_both}
 use Rattle.rssd_run.proofs.Still.{same_book, same_seq, lowers_none}
@@ -267,10 +268,6 @@ off_step d v line stands here small never =
       calls = rest.calls;
       placed = λ s b t. absurd (not_on v.array here t.on);
     })
-
--- the reply to `stat`
-abbrev pub stat_of : View → Reply
-stat_of v = Counts v.device.first v.device.second v.device.declined v.device.moved (erased v)
 
 stat_row : (size : ℕ) (array : ArrayState) (first second declined moved erases : ℕ) → Row size array Stat (Counts first second declined moved erases) array
 stat_row size (On rows) first second declined moved erases = refl

@@ -19,6 +19,15 @@ pub record Tallies : Type 0 where
   pub declined : ℕ
   pub moved : ℕ
 
+-- tallies on top of others
+abbrev pub added_tallies : Tallies → Tallies → Tallies
+added_tallies base more = record {
+  first = count_sum base.first more.first;
+  second = count_sum base.second more.second;
+  declined = count_sum base.declined more.declined;
+  moved = count_sum base.moved more.moved;
+}
+
 -- a device's view with the session's tallies
 abbrev pub plus : Tallies → DeviceView → DeviceView
 plus base view = record view {
