@@ -2,3 +2,17 @@ pub mod Zeros
 pub mod MoreLines
 pub mod OneLine
 pub mod Limits
+pub mod Came
+pub mod Parts
+pub mod Still
+pub mod WriteSteps
+pub mod LineSteps
+pub mod MountSteps
+pub mod CommandSteps
+pub mod Stepped
+pub mod Refused
+pub mod Sessions
+pub mod Fields
+pub mod Runs
+pub mod Errors
+pub mod Rows

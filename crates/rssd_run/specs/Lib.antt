@@ -5,3 +5,13 @@ pub mod Answers
 pub mod Running
 pub mod Replay
 pub mod Statuses
+pub mod ArrayWithCuts
+pub mod View
+pub mod Placing
+pub mod Armed
+pub mod Moves
+pub mod Step
+pub mod Run
+pub mod Held
+pub mod Steps
+pub mod Shows

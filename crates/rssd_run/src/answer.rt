@@ -29,13 +29,21 @@ fn length_without_zeros(bytes: &[u8]) -> usize
     count
 }
 
-/// The answer to a read of these bytes: they are told without the zeros at the end.
+/// The reply to a read of these bytes: they are told without the zeros at the end.
+pub fn bytes_reply(bytes: &[u8]) -> Reply
+    requires { length bytes.now ≤ 512 }
+    ensures { result ≡ Reply.Bytes (without_zeros bytes.now) }
+{
+    let count = length_without_zeros(bytes);
+    Reply::Bytes(ReplyBytes::of(&bytes[..count]))
+}
+
+/// The answer to a read of these bytes.
 pub fn told_bytes(bytes: &[u8]) -> Answer
     requires { length bytes.now ≤ 512 }
     ensures { result ≡ Answer.Told (Reply.Bytes (without_zeros bytes.now)) }
 {
-    let count = length_without_zeros(bytes);
-    Answer::Told(Reply::Bytes(ReplyBytes::of(&bytes[..count])))
+    Answer::Told(bytes_reply(bytes))
 }
 
 /// Gives an answer with its line feed to a sink, in one piece.

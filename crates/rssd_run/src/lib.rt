@@ -4,6 +4,7 @@
 mod answer;
 mod lines;
 mod replay;
+pub mod run;
 mod session;
 mod status;
 mod text;

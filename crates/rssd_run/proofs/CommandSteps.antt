@@ -1,0 +1,269 @@
+-- Trims and idle calls: what a device's call leaves makes a step.
+use Rattle.std.proofs.Common.{◌≡◌, ◌≢◌, ◌⊎◌, inl, inr, ℕ, ◌^◌, ◌+◌, ◌-◌, ◌≤◌, ◌<◌, List, [], length, Option, None, Some, refl, arith, sym, ap, ◌∙◌, slice_set}
+use Rattle.std.proofs.lemmas.Option.{none-some}
+use Rattle.cell_die.specs.Counts.{Rose, count_sum}
+use Rattle.reuse_pool.specs.declared.unit.ReuseUnit.{ReuseUnit}
+use Rattle.rssd_core.specs.Rules.{offer_of}
+use Rattle.rssd_script.specs.declared.lines.Line.{Line}
+use Rattle.rssd_script.specs.declared.lines.Line.TheVariants.{Trim, Idle}
+use Rattle.rssd_script.specs.declared.replies.Reply.{Reply}
+use Rattle.rssd_script.specs.declared.replies.Reply.TheVariants.{Done, Moves, Fault}
+use Rattle.rssd_core.specs.declared.device.Placed.{Placed}
+use Rattle.rssd_core.specs.declared.device.Placed.TheVariants.{First as PutFirst, Second as PutSecond, Declined as PutDeclined}
+use Rattle.rssd_core.specs.SectorArray.{trimmed}
+use Rattle.page_codec.specs.Sound.{IsSound}
+use Rattle.rssd_core.specs.DeviceValue.{Numbers, DeviceView, DeviceValue, rows_of}
+use Rattle.rssd_core.specs.Failures.{Lowers, TellsPower}
+use Rattle.rssd_core.specs.Within.{WithinTrim, WithinIdle, Went}
+use Rattle.rssd_core.specs.Writes.{OfferCarries, OfferDeclines, OverUnit, OnCleanPage}
+use Rattle.rssd_core.specs.Outcomes.{Holds, Trimmed, TrimFault, Idled, IdleFault, zeros, ReadFault, ChangeFault, CountsOne, SameCounts}
+use Rattle.rssd_run.specs.ArrayWithCuts.{On, Off}
+use Rattle.rssd_run.specs.View.{View, Event, NoFailure, ACut, AReadFailure}
+use Rattle.rssd_run.specs.Held.{Tallies, plus, on, off, Calm}
+use Rattle.rssd_run.specs.Placing.{IsTried, PlacedExactly}
+use Rattle.rssd_run.specs.Armed.{ArmedExactly, FaultWithin}
+use Rattle.rssd_run.specs.Step.{IsStep, AnswersExactly, RefusedExactly, FaultExactly, TalliesRise}
+use Rattle.rssd_run.proofs.Came.{went_lowers, none_came, ACutCame, change_came, AReadCame, read_came, change_rose, read_rose}
+use Rattle.rssd_core.specs.Moves.{IdleMoves, MovesInOrder}
+use Rattle.cell_die.specs.DieState.{DieState}
+use Rattle.cell_die.specs.Calls.{PassedWithin}
+use Rattle.rssd_run.proofs.WriteSteps.{event_of, must_not, calm_rows}
+use Rattle.rssd_run.proofs.Parts.{not_refused, no_fault, keeps, plus_book, plus_seq}
+
+trim_plus : (d : Numbers) (base : Tallies) (old : DeviceView) (sector changes reads : ℕ) → WithinTrim d old sector changes reads → WithinTrim d (plus base old) sector changes reads
+trim_plus d base old sector changes reads w = record { changes_at_most = w.changes_at_most; reads_at_most = w.reads_at_most }
+
+idle_plus : (d : Numbers) (base : Tallies) (n : ℕ) (old new : DeviceView) (changes reads : ℕ) → WithinIdle d n old new changes reads → WithinIdle d n (plus base old) (plus base new) changes reads
+idle_plus d base n old new changes reads w = record {
+  moves = w.moves;
+  some_left = w.some_left;
+  finished = w.finished;
+  changes_at_most = w.changes_at_most;
+  reads_at_most = w.reads_at_most;
+}
+
+moves_plus : (d : Numbers) (base : Tallies) (old new : DeviceView) (k : ℕ) → IdleMoves d old new k → IdleMoves d (plus base old) (plus base new) k
+moves_plus d base old new k m = (m.0, m.1, m.2, m.3, m.4, record { distinct = m.5.distinct; moved = m.5.moved; others = m.5.others })
+
+pub bounded : {changes reads : ℕ} {old new : DieState} → PassedWithin changes reads old new → Went changes reads (Unit {0}) old new
+bounded within = record { within = within; exact = λ not. absurd (not tt) }
+
+pub trimmed_step : (d : Numbers) (base : Tallies) (old new : DeviceValue) (sector : ℕ) → sector < d.geometry.sectors → TellsPower old.view.die → Holds d old new
+    → Trimmed d sector old new → IsStep d (event_of (Trim sector) Done (on d base old) (on d base new))
+trimmed_step d base old new sector in_range power holds w =
+    let e : Event = event_of (Trim sector) Done (on d base old) (on d base new) in
+    let lowers = went_lowers old.view.die new.view.die power w.calls in
+    let none : NoFailure e = none_came old.view.die new.view.die lowers in
+    record {
+      row = ap On w.rows;
+      stands_before = refl;
+      stands_after = refl;
+      off = λ h. cc;
+      keeps = keeps d base old new holds;
+      placed = λ s b t. absurd (let l = t.write in cc);
+      fault = no_fault e (λ h. cc) none;
+      answers = record {
+        refused = not_refused d e tt (λ h. omega (arith, in_range)) (λ h. h) (λ h. omega (arith, w.fresh, h)) (λ h. cc) (λ h. cc) (λ h. cc) (λ h. cc);
+        idle = tt;
+        no_spare = record { only = λ h. cc; always = λ h. cc };
+        stays = must_not;
+        stat = tt;
+        tallies = record { first = omega (arith, w.counts.first); second = omega (arith, w.counts.second); declined = omega (arith, w.counts.declined) };
+      };
+      true_book = λ h. holds.true_book w.running;
+      moves = (record { book = plus_book d base old.view new.view (λ rise at came. at power came) w.book; seq = plus_seq d base old.view new.view w.seq }, tt);
+      armed = record { arms = tt; lowers = λ a f. lowers; fault = λ h. cc };
+    }
+
+pub trim_read_fault : (d : Numbers) (base : Tallies) (old new : DeviceValue) (sector : ℕ) → sector < d.geometry.sectors → TellsPower old.view.die → Holds d old new
+    → (w : TrimFault d sector old new) → ReadFault d (WithinTrim d old.view sector) old new
+    → IsStep d (event_of (Trim sector) Fault (on d base old) (on d base new))
+trim_read_fault d base old new sector in_range power holds w f =
+    let e : Event = event_of (Trim sector) Fault (on d base old) (on d base new) in
+    let came : AReadCame f.changes f.reads old.view.die new.view.die = read_came old.view.die new.view.die power f.failed in
+    record {
+      row = inl (ap On f.rows);
+      stands_before = refl;
+      stands_after = refl;
+      off = λ h c. record { only = λ off. absurd off; always = λ on more. omega (arith, f.failed.change_faults, more) };
+      keeps = keeps d base old new holds;
+      placed = λ s b t. absurd (let l = t.write in cc);
+      fault = record {
+        came = (λ h. inr came.came, λ h. refl);
+        one = λ cut read. omega (arith, came.cut.to_come cut.0, cut.1);
+        rose = λ h. read_rose old.view.die new.view.die f.failed;
+      };
+      answers = record {
+        refused = not_refused d e tt (λ h. omega (arith, in_range)) (λ h. h) (λ h. omega (arith, w.fresh, h)) (λ h. cc) (λ h. cc) (λ h. cc) (λ h. cc);
+        idle = tt;
+        no_spare = record { only = λ h. cc; always = λ h. cc };
+        stays = must_not;
+        stat = tt;
+        tallies = record { first = omega (arith, w.counts.first); second = omega (arith, w.counts.second); declined = omega (arith, w.counts.declined) };
+      };
+      true_book = λ h. holds.true_book f.running;
+      moves = (record { book = plus_book d base old.view new.view (λ rise at came. at power came) w.book; seq = plus_seq d base old.view new.view w.seq }, tt);
+      armed = record {
+        arms = tt;
+        lowers = λ a not. absurd (not refl);
+        fault = λ h. record {
+          changes = f.changes;
+          reads = f.reads;
+          within = trim_plus d base old.view sector f.changes f.reads f.within;
+          cut_came = λ cut. absurd (omega (arith, came.cut.to_come cut.0, cut.1));
+          read_came = λ read. (came.within, came.cut, came.form);
+        };
+      };
+    }
+
+pub trim_change_fault : (d : Numbers) (base : Tallies) (old new : DeviceValue) (sector : ℕ) → sector < d.geometry.sectors → TellsPower old.view.die → Calm d old.view.die → Holds d old new
+    → (w : TrimFault d sector old new)
+    → ChangeFault d (WithinTrim d old.view sector) (trimmed d.geometry.sector_bytes (rows_of d old.view) sector) old new
+    → IsStep d (event_of (Trim sector) Fault (on d base old) (off base new (Off (rows_of d old.view) (trimmed d.geometry.sector_bytes (rows_of d old.view) sector))))
+trim_change_fault d base old new sector in_range power calm holds w f =
+    let e : Event = event_of (Trim sector) Fault (on d base old) (off base new (Off (rows_of d old.view) (trimmed d.geometry.sector_bytes (rows_of d old.view) sector))) in
+    let came : ACutCame f.changes f.reads old.view.die new.view.die = change_came old.view.die new.view.die power f.failed in
+    record {
+      row = inr refl;
+      stands_before = refl;
+      stands_after = calm_rows d old new calm came f.rows;
+      off = λ h c. record { only = λ off. f.failed.change_faults; always = λ on. absurd on };
+      keeps = keeps d base old new holds;
+      placed = λ s b t. absurd (let l = t.write in cc);
+      fault = record {
+        came = (λ h. inl came.came, λ h. refl);
+        one = λ cut read. omega (arith, came.read.to_come read.0, read.1);
+        rose = λ h. change_rose old.view.die new.view.die f.failed;
+      };
+      answers = record {
+        refused = not_refused d e tt (λ h. omega (arith, in_range)) (λ h. h) (λ h. omega (arith, w.fresh, h)) (λ h. cc) (λ h. cc) (λ h. cc) (λ h. cc);
+        idle = tt;
+        no_spare = record { only = λ h. cc; always = λ h. cc };
+        stays = must_not;
+        stat = tt;
+        tallies = record { first = omega (arith, w.counts.first); second = omega (arith, w.counts.second); declined = omega (arith, w.counts.declined) };
+      };
+      true_book = λ on. absurd on;
+      moves = (record { book = plus_book d base old.view new.view (λ rise at came. at power came) w.book; seq = plus_seq d base old.view new.view w.seq }, tt);
+      armed = record {
+        arms = tt;
+        lowers = λ a not. absurd (not refl);
+        fault = λ h. record {
+          changes = f.changes;
+          reads = f.reads;
+          within = trim_plus d base old.view sector f.changes f.reads f.within;
+          cut_came = λ cut. (came.within, came.read);
+          read_came = λ read. absurd (omega (arith, came.read.to_come read.0, read.1));
+        };
+      };
+    }
+
+pub idled_step : (d : Numbers) (base : Tallies) (old new : DeviceValue) (n k : ℕ) → TellsPower old.view.die → Holds d old new
+    → Idled d n k old new → IsStep d (event_of (Idle n) (Moves k) (on d base old) (on d base new))
+idled_step d base old new n k power holds w =
+    let e : Event = event_of (Idle n) (Moves k) (on d base old) (on d base new) in
+    let lowers = went_lowers old.view.die new.view.die power (bounded w.calls) in
+    let none : NoFailure e = none_came old.view.die new.view.die lowers in
+    record {
+      row = ap On w.rows;
+      stands_before = refl;
+      stands_after = refl;
+      off = λ h. cc;
+      keeps = keeps d base old new holds;
+      placed = λ s b t. absurd (let l = t.write in cc);
+      fault = no_fault e (λ h. cc) none;
+      answers = record {
+        refused = not_refused d e tt (λ h. h) (λ h. h) (λ h. h) (λ h. cc) (λ h. cc) (λ h. cc) (λ h. cc);
+        idle = (w.at_most, w.all);
+        no_spare = record { only = λ h. cc; always = λ h. cc };
+        stays = must_not;
+        stat = tt;
+        tallies = record { first = omega (arith, w.counts.first); second = omega (arith, w.counts.second); declined = omega (arith, w.counts.declined) };
+      };
+      true_book = λ h. holds.true_book w.running;
+      moves = (record { book = plus_book d base old.view new.view (λ rise at came. at power came) w.book; seq = plus_seq d base old.view new.view w.seq }, moves_plus d base old.view new.view k w.moves);
+      armed = record { arms = tt; lowers = λ a f. lowers; fault = λ h. cc };
+    }
+
+pub idle_read_fault : (d : Numbers) (base : Tallies) (old new : DeviceValue) (n : ℕ) → TellsPower old.view.die → Holds d old new
+    → (w : IdleFault d n old new) → ReadFault d (WithinIdle d n old.view new.view) old new
+    → IsStep d (event_of (Idle n) Fault (on d base old) (on d base new))
+idle_read_fault d base old new n power holds w f =
+    let e : Event = event_of (Idle n) Fault (on d base old) (on d base new) in
+    let came : AReadCame f.changes f.reads old.view.die new.view.die = read_came old.view.die new.view.die power f.failed in
+    record {
+      row = inl (ap On f.rows);
+      stands_before = refl;
+      stands_after = refl;
+      off = λ h c. record { only = λ off. absurd off; always = λ on more. omega (arith, f.failed.change_faults, more) };
+      keeps = keeps d base old new holds;
+      placed = λ s b t. absurd (let l = t.write in cc);
+      fault = record {
+        came = (λ h. inr came.came, λ h. refl);
+        one = λ cut read. omega (arith, came.cut.to_come cut.0, cut.1);
+        rose = λ h. read_rose old.view.die new.view.die f.failed;
+      };
+      answers = record {
+        refused = not_refused d e tt (λ h. h) (λ h. h) (λ h. h) (λ h. cc) (λ h. cc) (λ h. cc) (λ h. cc);
+        idle = tt;
+        no_spare = record { only = λ h. cc; always = λ h. cc };
+        stays = must_not;
+        stat = tt;
+        tallies = record { first = omega (arith, w.counts.first); second = omega (arith, w.counts.second); declined = omega (arith, w.counts.declined) };
+      };
+      true_book = λ h. holds.true_book f.running;
+      moves = (record { book = plus_book d base old.view new.view (λ rise at came. at power came) w.book; seq = plus_seq d base old.view new.view w.seq }, tt);
+      armed = record {
+        arms = tt;
+        lowers = λ a not. absurd (not refl);
+        fault = λ h. record {
+          changes = f.changes;
+          reads = f.reads;
+          within = idle_plus d base n old.view new.view f.changes f.reads f.within;
+          cut_came = λ cut. absurd (omega (arith, came.cut.to_come cut.0, cut.1));
+          read_came = λ read. (came.within, came.cut, came.form);
+        };
+      };
+    }
+
+pub idle_change_fault : (d : Numbers) (base : Tallies) (old new : DeviceValue) (n : ℕ) → TellsPower old.view.die → Calm d old.view.die → Holds d old new
+    → (w : IdleFault d n old new)
+    → ChangeFault d (WithinIdle d n old.view new.view) (rows_of d old.view) old new
+    → IsStep d (event_of (Idle n) Fault (on d base old) (off base new (Off (rows_of d old.view) (rows_of d old.view))))
+idle_change_fault d base old new n power calm holds w f =
+    let e : Event = event_of (Idle n) Fault (on d base old) (off base new (Off (rows_of d old.view) (rows_of d old.view))) in
+    let came : ACutCame f.changes f.reads old.view.die new.view.die = change_came old.view.die new.view.die power f.failed in
+    record {
+      row = inr refl;
+      stands_before = refl;
+      stands_after = calm_rows d old new calm came f.rows;
+      off = λ h c. record { only = λ off. f.failed.change_faults; always = λ on. absurd on };
+      keeps = keeps d base old new holds;
+      placed = λ s b t. absurd (let l = t.write in cc);
+      fault = record {
+        came = (λ h. inl came.came, λ h. refl);
+        one = λ cut read. omega (arith, came.read.to_come read.0, read.1);
+        rose = λ h. change_rose old.view.die new.view.die f.failed;
+      };
+      answers = record {
+        refused = not_refused d e tt (λ h. h) (λ h. h) (λ h. h) (λ h. cc) (λ h. cc) (λ h. cc) (λ h. cc);
+        idle = tt;
+        no_spare = record { only = λ h. cc; always = λ h. cc };
+        stays = must_not;
+        stat = tt;
+        tallies = record { first = omega (arith, w.counts.first); second = omega (arith, w.counts.second); declined = omega (arith, w.counts.declined) };
+      };
+      true_book = λ on. absurd on;
+      moves = (record { book = plus_book d base old.view new.view (λ rise at came. at power came) w.book; seq = plus_seq d base old.view new.view w.seq }, tt);
+      armed = record {
+        arms = tt;
+        lowers = λ a not. absurd (not refl);
+        fault = λ h. record {
+          changes = f.changes;
+          reads = f.reads;
+          within = idle_plus d base n old.view new.view f.changes f.reads f.within;
+          cut_came = λ cut. (came.within, came.read);
+          read_came = λ read. absurd (omega (arith, came.read.to_come read.0, read.1));
+        };
+      };
+    }

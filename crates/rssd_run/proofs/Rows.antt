@@ -1,0 +1,12 @@
+-- Rows that are filled up with zero bytes.
+use Rattle.std.proofs.Common.{◌≡◌, ℕ, ◌+◌, ◌-◌, ◌≤◌, List, ◌++◌, length, take, replicate, sym, ap, ◌∙◌, arith}
+use Rattle.std.proofs.Math.Seq.{take-append-add}
+use Rattle.std.proofs.lemmas.List.{take-replicate}
+use Rattle.rssd_core.specs.SectorArray.{filled_up}
+
+-- the front of a row that was filled up further
+pub filled_front : (size : ℕ) (bytes : List ℕ) → length bytes ≤ size → size ≤ 512 → take size (filled_up 512 bytes) ≡ filled_up size bytes
+filled_front size bytes fits small =
+    let parts : size ≡ length bytes + (size - length bytes) = omega arith in
+    ap (λ n. take n (filled_up 512 bytes)) parts
+    ∙ (take-append-add bytes (replicate (512 - length bytes) 0) (size - length bytes) ∙ ap (λ zeros. bytes ++ zeros) (take-replicate (size - length bytes) (512 - length bytes) 0 (omega arith)))

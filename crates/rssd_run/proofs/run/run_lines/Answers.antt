@@ -1,0 +1,61 @@
+-- A line more is a step more, and its text is given after the others.
+use Rattle.std.proofs.Common.{◌≡◌, ℕ, ◌+◌, ◌++◌, ◌∷◌, [], All, length, take, ◌∙◌, refl, sym, ap, arith, false, Result, Ok, Err, OnErr, length-take}
+use Rattle.std.proofs.lemmas.List.{take_more}
+use Rattle.std.proofs.lemmas.List.Elements.{All-get_or}
+use Rattle.rssd_script.specs.Replies.{reply_line}
+use Rattle.rssd_run.specs.Run.{is_cut}
+use Rattle.rssd_run.proofs.Runs.{run_of_none, run_of_more, run_cut_off, calm_now, calm_on}
+use Rattle.rssd_run.proofs.run.run_lines.Goals as goal
+
+pub loop-line-init : goal.loop-line-init
+loop-line-init g c = record {
+  numbers = λ d numbers. numbers;
+  runs = λ d numbers before shows calm. (before, shows, calm, run_of_none d before (g.O.Sink.written c.args.out.now));
+  faults = refl;
+}
+
+pub loop-line-preserved : goal.loop-line-preserved
+loop-line-preserved g c =
+    let written = g.O.Sink.written in
+    let lines = c.args.lines.now in
+    let i = c.loop-line.line-index in
+    let line = c.line-item.result in
+    let reply = c.step-reply.result in
+    let more : take (i + 1) lines ≡ take i lines ++ line ∷ [] = take_more lines i line (omega arith) ∙ ap (λ item. take i lines ++ item ∷ []) (sym c.line-item.is) in
+    let among : All (λ l. is_cut l ≡ false) lines → is_cut line ≡ false = λ all. ap is_cut c.line-item.is ∙ All-get_or (λ l. is_cut l ≡ false) lines i line (omega arith) all in
+    let text : c.as_slice.result.now ≡ reply_line reply = c.as_slice.ensures ∙ c.print_reply.ensures in
+    let given = rw text at c.in_ok-give.ensures.ok in
+    record {
+      numbers = λ d numbers. c.step-reply.ensures.numbers d (c.loop-line.invariant.numbers d numbers);
+      runs = λ d numbers before shows calm.
+          let so = c.loop-line.invariant.runs d numbers before shows calm in
+          let s = c.step-reply.ensures.step d (c.loop-line.invariant.numbers d numbers) so.0 so.1 (calm_now d so.0.device.die lines so.2) in
+          (s.0, s.1, calm_on d so.0 s.0 line reply lines s.2 among so.2,
+          rw more (run_of_more d before so.0 s.0 (take i lines) line reply (written c.args.out.now) (written c.loop-line.out) (written c.give.new.self) so.3 s.2 given));
+      faults = c.in_ok-give.ensures.cause.kept ∙ c.loop-line.invariant.faults;
+    }
+
+pub returns-in_err-give-clause-numbers : goal.returns-in_err-give-clause-numbers
+returns-in_err-give-clause-numbers g c = λ d numbers. c.step-reply.ensures.numbers d (c.loop-line.invariant.numbers d numbers)
+
+on_err : {T E : Type 0} (r : Result T E) (P : Type 0) → P → OnErr r P
+on_err (Ok x) P holds = tt
+on_err (Err e) P holds = holds
+
+pub returns-in_err-give-clause-err : goal.returns-in_err-give-clause-err
+returns-in_err-give-clause-err g c =
+    let written = g.O.Sink.written in
+    let lines = c.args.lines.now in
+    let i = c.loop-line.line-index in
+    let line = c.line-item.result in
+    let reply = c.step-reply.result in
+    let more : take (i + 1) lines ≡ take i lines ++ line ∷ [] = take_more lines i line (omega arith) ∙ ap (λ item. take i lines ++ item ∷ []) (sym c.line-item.is) in
+    let count : i ≡ length (take i lines) = omega (arith, length-take i lines) in
+    let front : take i lines ++ line ∷ [] ≡ take (length (take i lines) + 1) lines = sym more ∙ ap (λ (n : ℕ). take (n + 1) lines) count in
+    let text : c.as_slice.result.now ≡ reply_line reply = c.as_slice.ensures ∙ c.print_reply.ensures in
+    let given = rw text at c.in_err-give.ensures.err.1 in
+    on_err c.from_residual.result _ (λ d numbers before shows calm.
+        let so = c.loop-line.invariant.runs d numbers before shows calm in
+        let s = c.step-reply.ensures.step d (c.loop-line.invariant.numbers d numbers) so.0 so.1 (calm_now d so.0.device.die lines so.2) in
+        (s.0, s.1,
+        run_cut_off d before so.0 s.0 (take i lines) line reply (written c.args.out.now) (written c.loop-line.out) (written c.give.new.self) so.3 s.2 lines front c.in_err-give.ensures.err.0 given))

@@ -1,0 +1,16 @@
+-- The die that was closed is mounted again, from each view that the session stood for.
+use Rattle.std.proofs.Common.{◌≡◌}
+use Rattle.rssd_run.proofs.Fields.{mount_done, mount_refused_so}
+use Rattle.rssd_run.proofs.run.session.Session.mount.Goals as goal
+
+pub returns-in-Ok-clause-step : goal.returns-in-Ok-clause-step
+returns-in-Ok-clause-step g c = λ d numbers.
+    mount_done g.D.Die.state g.C.Scheme.meaning g.F.Device.device c.args.self.now _ c.self.view_is d numbers c.close_held-die.result c.close_held-die.new.base
+    (record { device_is = c.close_held-die.ensures.device; counts = c.close_held-die.ensures.counts; die = c.close_held-die.ensures.die }) c.self.invariant c.in-Ok.ftl c.in-Ok.ensures.done
+
+pub returns-in-Err-clause-step : goal.returns-in-Err-clause-step
+returns-in-Err-clause-step g c = λ d numbers.
+    rw c.refusal_reply.ensures
+    (mount_refused_so g.D.Die.state g.C.Scheme.meaning g.F.Device.device c.args.self.now _ c.self.view_is d numbers c.close_held-die.result c.close_held-die.new.base
+    (record { device_is = c.close_held-die.ensures.device; counts = c.close_held-die.ensures.counts; die = c.close_held-die.ensures.die }) c.self.invariant c.close_held-die.new.mounted
+    (c.in-Err.refused.die, c.in-Err.refused.scheme) c.in-Err.refused.why c.close_held-die.ensures.mounted c.in-Err.ensures.refused)

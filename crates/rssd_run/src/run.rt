@@ -1,0 +1,48 @@
+//! Scripts on a device whose power may be cut. This is the form over the device's contract; no device meets it yet.
+ghost use Rattle.std.specs.Prelude.{◌≡◌, OnOk, OnErr};
+ghost use Rattle.std.specs.List.{All};
+ghost use Rattle.rssd_core.specs.DeviceValue.{Numbers};
+ghost use Rattle.rssd_io.specs.Faults.{HasCause};
+ghost use Rattle.rssd_run.specs.Run.{RunsSession, CutsOffSession};
+ghost use Rattle.rssd_run.specs.Shows.{SessionValue, CanStep, HasNumbers, StepsSession};
+
+pub mod line;
+pub mod session;
+
+use rssd_io::{Sink, WriteFault};
+use rssd_script::{Line, Reply, print_reply};
+use std::alloc::Global;
+
+/// What a session is to those that step its lines.
+pub trait Stepping {
+    /// All that contracts see of a session.
+    ghost session: { Self → SessionValue };
+
+    /// Answers a line. Only the line `mount` takes memory.
+    fn step(&mut self, alloc: Global, line: &Line) -> Reply
+        requires { CanStep line.now }
+        ensures numbers { (d : Numbers) → HasNumbers d (session self.old).holding → HasNumbers d (session self.new).holding }
+        ensures step { (d : Numbers) → HasNumbers d (session self.old).holding → StepsSession d line.now result (session self.old) (session self.new) };
+}
+
+/// Steps the lines in order, and gives each reply with its line feed to `out` in one piece.
+pub fn run_lines<S: Stepping, O: Sink>(
+    alloc: Global,
+    session: &mut S,
+    lines: &[Line],
+    out: &mut O,
+) -> Result<(), WriteFault>
+    requires { All CanStep lines.now }
+    ensures numbers { (d : Numbers) → HasNumbers d (S.session session.old).holding → HasNumbers d (S.session session.new).holding }
+    ensures ok { OnOk result ((d : Numbers) → HasNumbers d (S.session session.old).holding
+        → RunsSession d lines.now (S.session session.old) (S.session session.new) (O.written out.old) (O.written out.new)) }
+    ensures err { OnErr result ((d : Numbers) → HasNumbers d (S.session session.old).holding
+        → CutsOffSession d lines.now (S.session session.old) (S.session session.new) (O.written out.old) (O.written out.new)) }
+    ensures cause { HasCause (O.faults out.old) (O.faults out.new) result }
+{
+    for line in lines {
+        let reply = session.step(alloc, line);
+        out.give(print_reply(&reply).as_slice())?;
+    }
+    Ok(())
+}

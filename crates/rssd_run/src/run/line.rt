@@ -1,0 +1,233 @@
+//! Lines on a device that runs. Each is one call of it, and a step from every view that it stood for to one that it stands for.
+ghost use Rattle.std.specs.Prelude.{◌≡◌, ◌≤◌, ◌<◌, ◌^◌, false, length, IfOk, IfErr};
+ghost use Rattle.cell_die.specs.DieState.{DieState};
+ghost use Rattle.page_codec.specs.Geometry.{shape_of};
+ghost use Rattle.rssd_core.specs.Failures.{Tells};
+ghost use Rattle.rssd_core.specs.Mount.{numbers_of, Fits};
+ghost use Rattle.rssd_core.specs.SectorArray.{filled_up};
+ghost use Rattle.rssd_run.specs.Armed.{form_of_word};
+ghost use Rattle.rssd_run.specs.Held.{reply_of};
+ghost use Rattle.rssd_run.specs.Shows.{CanStep, IsDeviceLine};
+ghost use Rattle.rssd_run.specs.Steps.{IsKept, Steps, MountDone, MountRefused, refusal_reply as replied};
+
+use crate::answer::bytes_reply;
+use cell_die::{PowerDie, Torn};
+use rssd_core::device::{FtlError, MountError, Placed, Plan, PowerDevice, Refused};
+use rssd_script::{Line, Reply, TornWord};
+use std::alloc::Global;
+use striped::Scheme;
+
+/// The most bytes of a sector.
+const ROW_BYTES: usize = 512;
+
+/// The reply to a write that was placed.
+fn placed_reply(placed: Placed) -> Reply
+    ensures { result ≡ reply_of placed }
+{
+    match placed {
+        Placed::First => Reply::First,
+        Placed::Second => Reply::Second,
+        Placed::Declined => Reply::Declined,
+    }
+}
+
+/// The form of a cut that its line names.
+fn torn_of(torn: TornWord) -> Torn
+    ensures { result ≡ form_of_word torn }
+{
+    match torn {
+        TornWord::Nothing => Torn::Nothing,
+        TornWord::All => Torn::All,
+        TornWord::Mask(mask) => Torn::Mask(mask),
+    }
+}
+
+/// These bytes, filled up with zero bytes.
+fn filled_row(bytes: &[u8]) -> [u8; 512]
+    requires { length bytes.now ≤ 512 }
+    ensures { result ≡ filled_up 512 bytes.now }
+{
+    let mut row = [0u8; ROW_BYTES];
+    row[..bytes.len()].copy_from_slice(bytes);
+    row
+}
+
+/// Writes a sector that the device has, with bytes that fit it.
+fn write_row<D: PowerDie + Drop, C: Scheme + Drop, F: PowerDevice<D, C>>(
+    ftl: &mut F,
+    sector: u32,
+    bytes: &[u8],
+) -> Reply
+    requires in_range { sector < (F.device ftl.old).numbers.geometry.sectors }
+    requires fits { length bytes.now ≤ (F.device ftl.old).numbers.geometry.sector_bytes }
+    requires few_bytes { (F.device ftl.old).numbers.geometry.sector_bytes ≤ 512 }
+    requires running { (F.device ftl.old).stopped ≡ false }
+    requires kept { IsKept (F.device ftl.old).numbers (F.device ftl.old) }
+    ensures { Steps (F.device ftl.old).numbers (Line.Write sector bytes.now) result (F.device ftl.old) (F.device ftl.new) }
+{
+    let row = filled_row(bytes);
+    let size = ftl.sector_bytes() as usize;
+    match ftl.write(sector, &row[..size]) {
+        Ok(placed) => placed_reply(placed),
+        Err(FtlError::DieFault) => Reply::Fault,
+        Err(FtlError::Spent) => Reply::Spent,
+        Err(FtlError::BadSector | FtlError::Stopped) => unreachable!(),
+    }
+}
+
+/// Answers `write`.
+fn write_line<D: PowerDie + Drop, C: Scheme + Drop, F: PowerDevice<D, C>>(
+    ftl: &mut F,
+    sector: u32,
+    bytes: &[u8],
+) -> Reply
+    requires few_bytes { (F.device ftl.old).numbers.geometry.sector_bytes ≤ 512 }
+    requires running { (F.device ftl.old).stopped ≡ false }
+    requires kept { IsKept (F.device ftl.old).numbers (F.device ftl.old) }
+    ensures { Steps (F.device ftl.old).numbers (Line.Write sector bytes.now) result (F.device ftl.old) (F.device ftl.new) }
+{
+    if sector >= ftl.sectors() {
+        return Reply::Range;
+    }
+    if bytes.len() > ftl.sector_bytes() as usize {
+        return Reply::Long;
+    }
+    write_row(ftl, sector, bytes)
+}
+
+/// Answers `read`.
+fn read_line<D: PowerDie + Drop, C: Scheme + Drop, F: PowerDevice<D, C>>(
+    ftl: &mut F,
+    sector: u32,
+) -> Reply
+    requires few_bytes { (F.device ftl.old).numbers.geometry.sector_bytes ≤ 512 }
+    requires running { (F.device ftl.old).stopped ≡ false }
+    requires kept { IsKept (F.device ftl.old).numbers (F.device ftl.old) }
+    ensures { Steps (F.device ftl.old).numbers (Line.Read sector) result (F.device ftl.old) (F.device ftl.new) }
+{
+    let mut room = [0u8; ROW_BYTES];
+    let row = &mut room[..ftl.sector_bytes() as usize];
+    match ftl.read(sector, row) {
+        Ok(()) => bytes_reply(row),
+        Err(FtlError::BadSector) => Reply::Range,
+        Err(FtlError::DieFault) => Reply::Fault,
+        Err(FtlError::Stopped | FtlError::Spent) => unreachable!(),
+    }
+}
+
+/// Answers `trim`.
+fn trim_line<D: PowerDie + Drop, C: Scheme + Drop, F: PowerDevice<D, C>>(
+    ftl: &mut F,
+    sector: u32,
+) -> Reply
+    requires running { (F.device ftl.old).stopped ≡ false }
+    requires kept { IsKept (F.device ftl.old).numbers (F.device ftl.old) }
+    ensures { Steps (F.device ftl.old).numbers (Line.Trim sector) result (F.device ftl.old) (F.device ftl.new) }
+{
+    match ftl.trim(sector) {
+        Ok(()) => Reply::Done,
+        Err(FtlError::BadSector) => Reply::Range,
+        Err(FtlError::Spent) => Reply::Spent,
+        Err(FtlError::DieFault) => Reply::Fault,
+        Err(FtlError::Stopped) => unreachable!(),
+    }
+}
+
+/// Answers `idle`.
+fn idle_line<D: PowerDie + Drop, C: Scheme + Drop, F: PowerDevice<D, C>>(
+    ftl: &mut F,
+    n: u32,
+) -> Reply
+    requires running { (F.device ftl.old).stopped ≡ false }
+    requires kept { IsKept (F.device ftl.old).numbers (F.device ftl.old) }
+    ensures { Steps (F.device ftl.old).numbers (Line.Idle n) result (F.device ftl.old) (F.device ftl.new) }
+{
+    match ftl.idle(n) {
+        Ok(moves) => Reply::Moves(moves),
+        Err(FtlError::DieFault) => Reply::Fault,
+        Err(FtlError::BadSector | FtlError::Stopped | FtlError::Spent) => unreachable!(),
+    }
+}
+
+/// Answers `cut`.
+fn cut_line<D: PowerDie + Drop, C: Scheme + Drop, F: PowerDevice<D, C>>(
+    ftl: &mut F,
+    n: u32,
+    torn: TornWord,
+) -> Reply
+    requires some { 1 ≤ n }
+    requires running { (F.device ftl.old).stopped ≡ false }
+    requires kept { IsKept (F.device ftl.old).numbers (F.device ftl.old) }
+    ensures { Steps (F.device ftl.old).numbers (Line.Cut n torn) result (F.device ftl.old) (F.device ftl.new) }
+{
+    ftl.arm_cut(n, torn_of(torn));
+    Reply::Done
+}
+
+/// Answers `failread`.
+fn fail_read_line<D: PowerDie + Drop, C: Scheme + Drop, F: PowerDevice<D, C>>(
+    ftl: &mut F,
+    n: u32,
+) -> Reply
+    requires some { 1 ≤ n }
+    requires running { (F.device ftl.old).stopped ≡ false }
+    requires kept { IsKept (F.device ftl.old).numbers (F.device ftl.old) }
+    ensures { Steps (F.device ftl.old).numbers (Line.FailRead n) result (F.device ftl.old) (F.device ftl.new) }
+{
+    ftl.fail_read(n);
+    Reply::Done
+}
+
+/// Answers a line on a device that runs.
+pub fn answer_line<D: PowerDie + Drop, C: Scheme + Drop, F: PowerDevice<D, C>>(
+    ftl: &mut F,
+    line: &Line,
+) -> Reply
+    requires line { IsDeviceLine line.now }
+    requires can_step { CanStep line.now }
+    requires few_bytes { (F.device ftl.old).numbers.geometry.sector_bytes ≤ 512 }
+    requires running { (F.device ftl.old).stopped ≡ false }
+    requires kept { IsKept (F.device ftl.old).numbers (F.device ftl.old) }
+    ensures { Steps (F.device ftl.old).numbers line.now result (F.device ftl.old) (F.device ftl.new) }
+{
+    match line {
+        Line::Write { sector, bytes } => write_line(ftl, *sector, bytes.as_slice()),
+        Line::Read { sector } => read_line(ftl, *sector),
+        Line::Trim { sector } => trim_line(ftl, *sector),
+        Line::Idle { n } => idle_line(ftl, *n),
+        Line::Cut { n, torn } => cut_line(ftl, *n, *torn),
+        Line::FailRead { n } => fail_read_line(ftl, *n),
+        Line::Mount | Line::Stat => unreachable!(),
+    }
+}
+
+/// The reply to a mount that was refused; a bad shape never comes after a session's start.
+pub fn refusal_reply(why: MountError) -> Reply
+    ensures { result ≡ replied why }
+{
+    match why {
+        MountError::OutOfMemory | MountError::Shape => Reply::NoMemory,
+        MountError::DieFault => Reply::Fault,
+        MountError::NoSpare => Reply::NoSpare,
+    }
+}
+
+/// Gives a die its power back and mounts it.
+pub fn mount_again<D: PowerDie + Drop, C: Scheme + Drop, F: PowerDevice<D, C>>(
+    alloc: Global,
+    mut die: D,
+    scheme: C,
+    plan: Plan,
+) -> Result<F, Refused<D, C>>
+    requires tells { Tells (D.state die) }
+    requires fits { Fits (D.state die).shape (C.meaning scheme) plan }
+    ensures done { IfOk result (λ new. MountDone (numbers_of (D.state die).shape (C.meaning scheme) plan) (D.state die) (F.device new)) }
+    ensures refused { IfErr result (λ refused. MountRefused (numbers_of (D.state die).shape (C.meaning scheme) plan) (D.state die) (D.state refused.die) refused.why) }
+    ensures scheme { IfErr result (λ refused. C.meaning refused.scheme ≡ C.meaning scheme) }
+{
+    die.power_on();
+    match F::mount(alloc, die, scheme, plan) {
+        Ok(ftl) => Ok(ftl),
+        Err(refused) => Err(refused),
+    }
+}

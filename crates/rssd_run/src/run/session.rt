@@ -1,0 +1,191 @@
+//! A session: a device on a die whose power may be cut, and the lines that are run on it. It is on while the device runs, and off
+//! after a failed change call or a mount that was refused, until a mount. From each view that it stands for, a line with its
+//! reply is a step to one that it stands for afterwards. Only the line `mount` takes memory.
+ghost use Rattle.std.specs.Prelude.{◌≡◌, None, Some, IsSome, IfSome, IfNone, IfOk, IfErr};
+ghost use Rattle.rssd_core.specs.DeviceValue.{Numbers};
+ghost use Rattle.rssd_core.specs.Failures.{TellsPower};
+ghost use Rattle.rssd_core.specs.Mount.{numbers_of, Refuses};
+ghost use Rattle.rssd_run.specs.Held.{added_tallies, tallies_of};
+ghost use Rattle.rssd_run.specs.Shows.{CanStep, IsDeviceLine, HasNumbers, HasDie, StepsSession, Starts, session_of, tallies};
+
+use crate::run::Stepping;
+use crate::run::line::{answer_line, mount_again, refusal_reply};
+use cell_die::PowerDie;
+use rssd_core::device::{Counts, Plan, PowerDevice, Refused};
+use rssd_script::{Line, Reply};
+use std::alloc::Global;
+use std::marker::Model;
+use striped::Scheme;
+
+/// Tallies on top of others; each stands still at 2^64 - 1.
+fn added(base: Counts, more: Counts) -> Counts
+    ensures { tallies result ≡ added_tallies (tallies base) (tallies more) }
+{
+    Counts {
+        first: base.first.saturating_add(more.first),
+        second: base.second.saturating_add(more.second),
+        declined: base.declined.saturating_add(more.declined),
+        moved: base.moved.saturating_add(more.moved),
+    }
+}
+
+/// The reply to `stat`.
+fn stat_reply(counts: Counts, erased: u64) -> Reply
+    ensures { result ≡ Reply.Stat counts.first counts.second counts.declined counts.moved erased }
+{
+    Reply::Stat {
+        first: counts.first,
+        second: counts.second,
+        declined: counts.declined,
+        moved: counts.moved,
+        erased,
+    }
+}
+
+/// Closes the device and adds its tallies, or takes the die of no device.
+fn close_held<D: PowerDie + Drop, C: Scheme + Drop, F: PowerDevice<D, C>>(
+    mounted: &mut Option<F>,
+    closed: &mut Option<(D, C)>,
+    base: &mut Counts,
+) -> (D, C)
+    requires { mounted.old ≡ None → IsSome closed.old }
+    ensures device { IfSome mounted.old (λ ftl. (D.state result.0 ≡ (F.device ftl).view.die) × (C.meaning result.1 ≡ (F.device ftl).numbers.meaning)) }
+    ensures counts { IfSome mounted.old (λ ftl. tallies base.new ≡ added_tallies (tallies base.old) (tallies_of (F.device ftl).view)) }
+    ensures die { IfNone mounted.old (closed.old ≡ Some result × base.new ≡ base.old) }
+    ensures mounted { mounted.new ≡ None }
+{
+    match mounted.take() {
+        Some(ftl) => {
+            *base = added(*base, ftl.counts());
+            ftl.close()
+        }
+        None => match closed.take() {
+            Some(held) => held,
+            None => unreachable!(),
+        },
+    }
+}
+
+/// A device on a die, or after a mount that was refused the die alone with its scheme.
+#[derive(Drop)]
+pub struct Session<D: PowerDie + Drop, C: Scheme + Drop, F: PowerDevice<D, C>> {
+    mounted: Option<F>,
+    closed: Option<(D, C)>,
+    plan: Plan,
+    /// The tallies of the devices before this one.
+    base: Counts,
+}
+
+impl<D: PowerDie + Drop, C: Scheme + Drop, F: PowerDevice<D, C>> Model for Session<D, C, F> {
+    ghost use Rattle.rssd_run.specs.Shows.{Parts, IsSession, session_of};
+
+    ghost Value = { Parts D C F };
+
+    ghost view = { λ s. record { mounted = s.mounted; closed = s.closed; plan = s.plan; base = s.base } };
+
+    ghost invariant = { λ s. IsSession s.plan (session_of D.state C.meaning F.device (record { mounted = s.mounted; closed = s.closed; plan = s.plan; base = s.base })) };
+}
+
+impl<D: PowerDie + Drop, C: Scheme + Drop, F: PowerDevice<D, C>> Session<D, C, F> {
+    /// A session on a die that has power. It mounts the die, and is on.
+    pub fn start(alloc: Global, die: D, scheme: C, plan: Plan) -> Result<Self, Refused<D, C>>
+        requires { TellsPower (D.state die) }
+        ensures started { IfOk result (λ new. Starts (numbers_of (D.state die).shape (C.meaning scheme) plan) (D.state die) (session_of D.state C.meaning F.device new)) }
+        ensures refused { IfErr result (λ refused. Refuses (numbers_of (D.state die).shape (C.meaning scheme) plan) (D.state die) (D.state refused.die) refused.why) }
+    {
+        match F::mount(alloc, die, scheme, plan) {
+            Ok(ftl) => Ok(Session {
+                mounted: Some(ftl),
+                closed: None,
+                plan,
+                base: Counts {
+                    first: 0,
+                    second: 0,
+                    declined: 0,
+                    moved: 0,
+                },
+            }),
+            Err(refused) => Err(refused),
+        }
+    }
+
+    /// Answers a line that a device answers.
+    fn answer(&mut self, line: &Line) -> Reply
+        requires line { IsDeviceLine line.now }
+        requires can_step { CanStep line.now }
+        ensures numbers { (d : Numbers) → HasNumbers d (session_of D.state C.meaning F.device self.old).holding → HasNumbers d (session_of D.state C.meaning F.device self.new).holding }
+        ensures step { (d : Numbers) → HasNumbers d (session_of D.state C.meaning F.device self.old).holding
+            → StepsSession d line.now result (session_of D.state C.meaning F.device self.old) (session_of D.state C.meaning F.device self.new) }
+    {
+        let Some(ftl) = &mut self.mounted else {
+            return Reply::Off;
+        };
+        if ftl.stopped() {
+            return Reply::Off;
+        }
+        answer_line(ftl, line)
+    }
+
+    /// Answers `stat`: the session's tallies, and the sum of the die's erase counts.
+    fn stat(&self) -> Reply
+        ensures { (d : Numbers) → HasNumbers d (session_of D.state C.meaning F.device self.now).holding
+            → StepsSession d Line.Stat result (session_of D.state C.meaning F.device self.now) (session_of D.state C.meaning F.device self.now) }
+    {
+        match &self.mounted {
+            Some(ftl) => stat_reply(added(self.base, ftl.counts()), ftl.erased()),
+            None => match &self.closed {
+                Some((die, _)) => stat_reply(self.base, die.erased()),
+                None => unreachable!(),
+            },
+        }
+    }
+
+    /// Answers `mount`: closes the device, gives the die its power and mounts it.
+    fn mount(&mut self, alloc: Global) -> Reply
+        ensures numbers { (d : Numbers) → HasNumbers d (session_of D.state C.meaning F.device self.old).holding → HasNumbers d (session_of D.state C.meaning F.device self.new).holding }
+        ensures step { (d : Numbers) → HasNumbers d (session_of D.state C.meaning F.device self.old).holding
+            → StepsSession d Line.Mount result (session_of D.state C.meaning F.device self.old) (session_of D.state C.meaning F.device self.new) }
+    {
+        let (die, scheme) = close_held(&mut self.mounted, &mut self.closed, &mut self.base);
+        match mount_again(alloc, die, scheme, self.plan) {
+            Ok(ftl) => {
+                self.mounted = Some(ftl);
+                Reply::Done
+            }
+            Err(refused) => {
+                self.closed = Some((refused.die, refused.scheme));
+                refusal_reply(refused.why)
+            }
+        }
+    }
+
+    /// Gives the die back.
+    pub fn finish(self) -> D
+        ensures { HasDie (D.state result) (session_of D.state C.meaning F.device self).holding }
+    {
+        let Session {
+            mounted,
+            closed,
+            ..
+        } = self;
+        match mounted {
+            Some(ftl) => ftl.close().0,
+            None => match closed {
+                Some((die, _)) => die,
+                None => unreachable!(),
+            },
+        }
+    }
+}
+
+impl<D: PowerDie + Drop, C: Scheme + Drop, F: PowerDevice<D, C>> Stepping for Session<D, C, F> {
+    ghost session = { session_of D.state C.meaning F.device };
+
+    fn step(&mut self, alloc: Global, line: &Line) -> Reply {
+        match line {
+            Line::Mount => self.mount(alloc),
+            Line::Stat => self.stat(),
+            line => self.answer(line),
+        }
+    }
+}
