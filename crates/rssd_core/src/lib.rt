@@ -1,6 +1,7 @@
 //! The device: numbered sectors on the pages of a die. Knows pages, and nothing of scripts.
 #![tactic(auto)]
 
+pub mod device;
 mod ftl;
 mod page;
 

@@ -1,0 +1,117 @@
+-- How a device's book changes: uses of its rules, in order.
+use Rattle.std.specs.Prelude.{◌≡◌, ℕ, ◌+◌, ◌-◌, ◌≤◌, Bool, true, false, List, [], ◌∷◌, ◌==◌, if◌then◌else◌, Option, Some, None}
+use Rattle.std.specs.List.{count_by}
+use Rattle.block_state.specs.declared.state.State.TheVariants.{Active, Used, Spare}
+use Rattle.block_state.specs.State.{is_active}
+use Rattle.block_state.specs.Book.{BookValue, state_at, live_at, with_state, with_live}
+use Rattle.page_alloc.specs.declared.next_page.NextPage.TheVariants.{Page, Take, Wipe, Collect}
+use Rattle.reuse_pool.specs.declared.unit.ReuseUnit.{ReuseUnit}
+use Rattle.reuse_pool.specs.Offer.{passed}
+use Rattle.reuse_pool.specs.Recycling.{Recycles}
+use Rattle.rssd_core.specs.Rules.{next_page, fill_of, first_block, offer_of}
+
+-- one use of a rule. `former` is the block of the sector's former live record
+pub data Change : Type 0 where
+  -- the lowest-numbered Clean block becomes Active
+  Takes : (block : ℕ) → Change
+  -- the victim, without a live record, is erased and becomes Active
+  Wipes : (block : ℕ) → Change
+  -- before a collection a Spare that is not known to be blank is erased, and it is not blank from the first copy on
+  Erases : (spare : ℕ) → Change
+  Copies : (spare : ℕ) → Change
+  -- the seal of a collection
+  Seals : (victim spare : ℕ) → Change
+  -- a record on the Active block's next page, and one over a unit
+  Fills : (former : Option ℕ) → Change
+  Rewrites : (unit : ReuseUnit) (former : Option ℕ) → Change
+  -- the offered unit is passed
+  Passes : (unit : ReuseUnit) → Change
+  -- blocks that are due offer their units
+  Offers : Change
+
+-- one live record less in the block of the former one
+abbrev pub one_less : BookValue → Option ℕ → BookValue
+one_less v None = v
+one_less v (Some former) = with_live v former (live_at v former - 1)
+
+-- one live record more in a block, and one less in that of the former one
+abbrev pub recorded : BookValue → ℕ → Option ℕ → BookValue
+recorded v block former = one_less (with_live v block (live_at v block + 1)) former
+
+-- the Active block after a record on its page `fill`: it closes where that was its last page
+abbrev pub filled : BookValue → ℕ → BookValue
+filled v block =
+    if fill_of (state_at v block) + 1 == v.pages then with_state v block (Used 0)
+    else with_state v block (Active (fill_of (state_at v block) + 1))
+
+-- the record effect on the Active block's next page
+abbrev pub filled_in : BookValue → Option ℕ → Option ℕ → BookValue
+filled_in v None former = v
+filled_in v (Some block) former = filled (recorded v block former) block
+
+-- the Spare becomes Active with the copies, and the victim becomes the Spare, not known to be blank
+abbrev pub sealed : BookValue → ℕ → ℕ → BookValue
+sealed v victim spare =
+    with_state (with_live (with_live (with_state v spare (Active (live_at v victim))) spare (live_at v victim)) victim 0) victim (Spare false)
+
+-- the victim is to be collected into this Spare
+abbrev pub Collecting : BookValue → ℕ → Type 0
+Collecting v spare = (victim : ℕ) × (next_page v ≡ Collect victim spare)
+
+-- the rule applies to v, and its use makes v into w
+abbrev pub UsesRule : ℕ → BookValue → Change → BookValue → Type 0
+UsesRule reuse_max v (Takes block) w = (next_page v ≡ Take block) × (w ≡ with_state v block (Active 0))
+UsesRule reuse_max v (Wipes block) w = (next_page v ≡ Wipe block) × (w ≡ with_state v block (Active 0))
+UsesRule reuse_max v (Erases spare) w = Collecting v spare × (state_at v spare ≡ Spare false) × (w ≡ with_state v spare (Spare true))
+UsesRule reuse_max v (Copies spare) w = Collecting v spare × (state_at v spare ≡ Spare true) × (w ≡ with_state v spare (Spare false))
+UsesRule reuse_max v (Seals victim spare) w = (next_page v ≡ Collect victim spare) × (w ≡ sealed v victim spare)
+UsesRule reuse_max v (Fills former) w = (page : ℕ) × (next_page v ≡ Page page) × (w ≡ filled_in v (first_block is_active v) former)
+UsesRule reuse_max v (Rewrites unit former) w = (offer_of v ≡ Some unit) × (w ≡ recorded v unit.block former)
+UsesRule reuse_max v (Passes unit) w = (offer_of v ≡ Some unit) × (w ≡ with_state v unit.block (passed v unit))
+UsesRule reuse_max v Offers w = Recycles reuse_max v w
+
+-- the changes, one after another, lead from v to w
+unfoldable pub Leads : ℕ → BookValue → List Change → BookValue → Type 0
+Leads reuse_max v [] w = w ≡ v
+Leads reuse_max v (change ∷ changes) w = (next : BookValue) × UsesRule reuse_max v change next × Leads reuse_max next changes w
+
+abbrev pub is_pass : Change → Bool
+is_pass (Passes unit) = true
+is_pass _ = false
+
+abbrev pub is_seal : Change → Bool
+is_seal (Seals victim spare) = true
+is_seal _ = false
+
+abbrev pub is_take : Change → Bool
+is_take (Takes block) = true
+is_take _ = false
+
+abbrev pub is_wipe : Change → Bool
+is_wipe (Wipes block) = true
+is_wipe _ = false
+
+abbrev pub is_erase : Change → Bool
+is_erase (Erases spare) = true
+is_erase _ = false
+
+abbrev pub is_copy : Change → Bool
+is_copy (Copies spare) = true
+is_copy _ = false
+
+-- the changes of an idle call
+abbrev pub is_idle : Change → Bool
+is_idle (Fills former) = true
+is_idle Offers = true
+is_idle _ = false
+
+abbrev pub passes : List Change → ℕ
+passes changes = count_by is_pass changes
+
+-- a write or trim uses each rule of clean pages and of collection at most once
+pub record EachOnce (changes : List Change) : Type 0 where
+  pub takes : count_by is_take changes ≤ 1
+  pub wipes : count_by is_wipe changes ≤ 1
+  pub erases : count_by is_erase changes ≤ 1
+  pub copies : count_by is_copy changes ≤ 1
+  pub seals : count_by is_seal changes ≤ 1
