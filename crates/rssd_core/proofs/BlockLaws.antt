@@ -1,5 +1,5 @@
 -- What each state of a block says of the cells stays where the block's pages and live records stay.
-use Rattle.std.proofs.Common.{◌≡◌, ◌≢◌, inl, inr, ℕ, zero, suc, ◌+◌, ◌*◌, ◌/◌, ◌<◌, ◌≤◌, Bool, true, false, List, drop, ◌&&◌, ◌==◌, Option, Some, None, refl, sym, ap, ap₂, ◌∙◌, subst, arith}
+use Rattle.std.proofs.Common.{◌≡◌, ◌≢◌, inl, inr, ℕ, zero, suc, ◌+◌, ◌*◌, ◌/◌, ◌%◌, ◌<◌, ◌≤◌, Bool, true, false, List, drop, ◌&&◌, ◌==◌, Option, Some, None, refl, sym, ap, ap₂, ◌∙◌, subst, arith}
 use Rattle.std.specs.List.{list_all, range_with_len}
 use Rattle.std.proofs.lemmas.Bool.{and_parts, and_from, cases_Bool, false≢true, eqb-true, eq-eqb}
 use Rattle.std.proofs.lemmas.Nat.{div-mul-add, div-add-mod'}
@@ -23,6 +23,15 @@ pub record IsSized (g : Geometry) : Type 0 where
 -- the pages of a block
 pub block_of_page : (g : Geometry) (block i : ℕ) → i < g.pages → block_of g (block * g.pages + i) ≡ block
 block_of_page g block i within = div-mul-add block g.pages i within
+
+pub page_in_block : (g : Geometry) (block page : ℕ) → 0 < g.pages → block_of g page ≡ block → (i : ℕ) × (i < g.pages) × (block * g.pages + i ≡ page)
+page_in_block g block page some here = (page % g.pages, below page g.pages some, ap (λ (b : ℕ). b * g.pages + page % g.pages) (sym here) ∙ whole page g.pages)
+  where
+    below : (p n : ℕ) → 0 < n → p % n < n
+    below p n h = omega arith
+
+    whole : (p n : ℕ) → p / n * n + p % n ≡ p
+    whole p n = div-add-mod' p n
 
 -- the first pages of its units
 pub unit_within : (g : Geometry) (u : ℕ) → 0 < g.span → u < units g → u * g.span + g.span ≤ g.pages
@@ -51,6 +60,11 @@ blank_block g cells block f = all_in_range (λ page. is_blank (page_at cells pag
 
 pub block_blank : (g : Geometry) (cells : List (List ℕ)) (block : ℕ) → is_block_blank g cells block ≡ true → (i : ℕ) → i < g.pages → is_blank (page_at cells (block * g.pages + i)) ≡ true
 block_blank g cells block h = in_range_all (λ page. is_blank (page_at cells page)) (block * g.pages) g.pages h
+
+pub blank_in_block : (g : Geometry) (cells : List (List ℕ)) (block page : ℕ) → 0 < g.pages → is_block_blank g cells block ≡ true → block_of g page ≡ block → is_blank (page_at cells page) ≡ true
+blank_in_block g cells block page some h here =
+    let at = page_in_block g block page some here in
+    subst (λ (p : ℕ). is_blank (page_at cells p) ≡ true) at.2 (block_blank g cells block h at.0 at.1)
 
 -- ---- live records of a block
 
