@@ -4,8 +4,8 @@ use Rattle.std.proofs.lemmas.Bool.{cases_eq, cases_lt, cases_Bool, false≢true}
 use Rattle.std.proofs.lemmas.List.{get_or_past}
 use Rattle.block_links.specs.Lists.{times, without}
 use Rattle.block_state.specs.declared.state.State.{State}
-use Rattle.block_state.specs.declared.state.State.TheVariants.{Clean}
-use Rattle.block_state.specs.State.{is_closed, is_active, InRange}
+use Rattle.block_state.specs.declared.state.State.TheVariants.{Clean, Active, Used, Recycled, Reused, Spare}
+use Rattle.block_state.specs.State.{is_closed, is_active, is_spare, InRange}
 use Rattle.block_state.specs.Book.{BookValue, IsValid, IsActive, IsClosed, state_at, live_at, reordered, with_state, with_live}
 use Rattle.block_state.proofs.Order.{times-reordered_same, times-reordered_other, times-moved_back}
 
@@ -18,6 +18,18 @@ state_there v b c s apart = get_or-set_other v.states b c s Clean apart
 -- a block in another state than Clean is one of the blocks
 pub within_blocks : (v : BookValue) (b : ℕ) → (state_at v b ≢ Clean) → b < length v.states
 within_blocks v b other = elim (cases_lt b (length v.states)) [ inl within ↦ within | inr past ↦ absurd (other (get_or_past v.states b Clean past)) ]
+
+-- a closed block is one of them, and it is not the Spare
+pub closed_within : (v : BookValue) (b : ℕ) → IsClosed v b → b < length v.states
+closed_within v b closed = within_blocks v b (λ clean. false≢true (sym (ap is_closed clean) ∙ closed))
+
+pub closed_not_spare : (s : State) → IsTrue (is_closed s) → is_spare s ≡ false
+closed_not_spare Clean closed = refl
+closed_not_spare (Active fill) closed = refl
+closed_not_spare (Used level) closed = refl
+closed_not_spare (Recycled level next) closed = refl
+closed_not_spare Reused closed = refl
+closed_not_spare (Spare blank) closed = absurd (false≢true closed)
 
 one_active_after : (v : BookValue) (b : ℕ) (s : State) → b < length v.states → IsValid v → (IsTrue (is_active s) → (c : ℕ) → IsActive v c → c ≡ b) → (c d : ℕ) → IsActive (with_state v b s) c → IsActive (with_state v b s) d → c ≡ d
 one_active_after v b s within valid one c d c_is d_is = elim (cases_eq c b) [
