@@ -8,7 +8,7 @@ use Rattle.sector_map.specs.declared.entry.Entry.{Entry}
 use Rattle.block_state.specs.declared.state.State.{State}
 use Rattle.block_state.specs.declared.state.State.TheVariants.{Clean, Active, Spare}
 use Rattle.block_state.specs.State.{is_spare}
-use Rattle.block_state.specs.Book.{BookValue, state_at, live_at, with_state, HasOneSpare, IsSpare, NoneActive}
+use Rattle.block_state.specs.Book.{BookValue, state_at, live_at, with_state, NoneActive}
 use Rattle.page_alloc.specs.CleanPage.{IsTakeBranch}
 use Rattle.page_codec.specs.declared.place.Place.{Place}
 use Rattle.page_codec.specs.Geometry.{Geometry, block_of, units, unit_page}
@@ -16,7 +16,7 @@ use Rattle.page_codec.specs.Records.{Placed, header_in, live_record}
 use Rattle.page_codec.specs.Sound.{live_count}
 use Rattle.page_codec.specs.TrueBook.{IsTrue, IsTrueState, IsNextSeq, HasSizes, entry_of, live_map}
 use Rattle.page_codec.proofs.SoundErase.{live_count_same}
-use Rattle.rssd_core.proofs.BookValues.{valid_with_state, state_here, state_there}
+use Rattle.collector.proofs.Books.{valid_state, state_here, state_there, spare_stays}
 use Rattle.rssd_core.proofs.BlankPages.{blank_slot}
 use Rattle.rssd_core.proofs.BlockLaws.{IsSized, BlockStays, state_stays, block_of_page, block_of_unit, blank_in_block}
 
@@ -39,17 +39,6 @@ next_seq_stays g old new seq back next = elim next [
   | inr last ↦ inr last
 ]
 
--- a block that is not the Spare and does not become it leaves the Spare as it was
-pub same_spare : (v : BookValue) (b : ℕ) (s : State) → b < length v.states → is_spare (state_at v b) ≡ false → is_spare s ≡ false → HasOneSpare v → HasOneSpare (with_state v b s)
-same_spare v b s within before now one = (
-  one.0,
-  ap is_spare (state_there v b one.0 s (λ e. false≢true (sym before ∙ (ap (λ (c : ℕ). is_spare (state_at v c)) (sym e) ∙ one.1)))) ∙ one.1,
-  λ c spare. elim (cases_eq c b) [
-    | inl here ↦ absurd (false≢true (sym now ∙ (ap is_spare (sym (ap (state_at (with_state v b s)) here ∙ state_here v b s within)) ∙ spare)))
-    | inr there ↦ one.2 c (ap is_spare (sym (state_there v b c s there)) ∙ spare)
-  ],
-)
-
 pub sizes_with_state : (g : Geometry) (v : BookValue) (b : ℕ) (s : State) → HasSizes g v → HasSizes g (with_state v b s)
 sizes_with_state g v b s sizes = record { blocks = length-set v.states b s ∙ sizes.blocks; pages = sizes.pages; units = sizes.units; generations = sizes.generations }
 
@@ -66,7 +55,7 @@ pub opened_true : (g : Geometry) (old new : List (List ℕ)) (book : BookValue) 
 opened_true g old new book table seq block sized blanks true_tables within not_spare none = record {
   live_counts = λ c inside. true_tables.live_counts c inside ∙ sym (live_count_same g old new blanks.live c);
   entries = true_tables.entries ∙ sym (same_map g old new blanks.live);
-  one_spare = same_spare book block (Active 0) within not_spare refl true_tables.one_spare;
+  one_spare = spare_stays book block (Active 0) within not_spare refl true_tables.one_spare;
   states = λ c inside. elim (cases_eq c block) [
     | inl here ↦ subst (λ (d : ℕ). IsTrueState g new d (state_at (with_state book block (Active 0)) d)) (sym here)
         (subst (IsTrueState g new block) (sym (state_here book block (Active 0) within)) (blanked_active g old new block sized blanks))
@@ -75,7 +64,7 @@ opened_true g old new book table seq block sized blanks true_tables within not_s
         (record { pages = λ page e. blanks.others page (λ h. there (sym e ∙ h)); live = λ sector placed few e h. sym (blanks.live sector) ∙ e })
         (true_tables.states c inside))
   ];
-  kept = valid_with_state book block (Active 0) true_tables.kept within (subst (λ (p : ℕ). 0 < p) (sym true_tables.sizes.pages) sized.pages) (λ active c is. absurd (none c is));
+  kept = valid_state book block (Active 0) true_tables.kept within (subst (λ (p : ℕ). 0 < p) (sym true_tables.sizes.pages) sized.pages) (λ active c is. absurd (none c is));
   next_seq = next_seq_stays g old new seq blanks.headers true_tables.next_seq;
   sizes = sizes_with_state g book block (Active 0) true_tables.sizes;
 }

@@ -21,7 +21,7 @@ use Rattle.block_state.specs.Book.{BookValue, state_at, with_state}
 use Rattle.page_alloc.specs.CleanPage.{IsWipeBranch}
 use Rattle.page_codec.specs.TrueBook.{IsTrue}
 use Rattle.collector.specs.Store.{store, Holds}
-use Rattle.rssd_core.proofs.BookValues.{closed_not_spare, closed_within}
+use Rattle.rssd_core.proofs.ClosedBlocks.{closed_not_spare, closed_within}
 use Rattle.cell_bits.proofs.Above.{keeps, above_refl}
 use Rattle.cell_die.proofs.CellLaws.{above_blank}
 use Rattle.spare_gate.specs.Slots.{word_at, is_gate_charged, is_seal_charged}
