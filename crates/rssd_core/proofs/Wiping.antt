@@ -66,6 +66,20 @@ pub committed_within : (g : Geometry) (cells : List (List ℕ)) (place : Place) 
 unfolding committed_in record_in
 committed_within g cells place h e = record_within g (header_in g cells place) h (may_hold g place) (committed_record g cells place (if may_hold g place then below_sectors g (header_in g cells place) else None) h e)
 
+record_header : (g : Geometry) (o : Option Header) (h : Header) (may : Bool) → (if may then below_sectors g o else None) ≡ Some h → o ≡ Some h
+record_header g None h true e = absurd (none-some h e)
+record_header g o h false e = absurd (none-some h e)
+record_header g (Some k) h true e = at (nat_lt k.sector g.sectors) e
+  where
+    at : (t : Bool) → (if t then Some k else None) ≡ Some h → Some k ≡ Some h
+    at true s = s
+    at false s = absurd (none-some h s)
+
+-- .. and its header is valid
+pub committed_header : (g : Geometry) (cells : List (List ℕ)) (place : Place) (h : Header) → committed_in g cells place ≡ Some h → header_in g cells place ≡ Some h
+unfolding committed_in record_in
+committed_header g cells place h e = record_header g (header_in g cells place) h (may_hold g place) (committed_record g cells place (if may_hold g place then below_sectors g (header_in g cells place) else None) h e)
+
 pub live_of : (g : Geometry) (cells : List (List ℕ)) (sector : ℕ) (x : Placed) → live_record g cells sector ≡ Some x → (committed_in g cells x.place ≡ Some x.header) × (x.header.sector ≡ sector)
 unfolding live_record
 live_of g cells sector x e = of_records g cells sector x (newest_some _ x e).one
