@@ -115,7 +115,7 @@ module _ (g : Geometry) (unit : ReuseUnit) (h : Header) (old new : List (List �
   newest : (other : Place) (k : Header) → committed_in g old other ≡ Some k → k.seq < h.seq
   newest other k e = p.fresh other k (committed_header g old other k e)
 
-  block_is : block_of g (unit_page g unit.block unit.number) ≡ unit.block
+  pub block_is : block_of g (unit_page g unit.block unit.number) ≡ unit.block
   block_is = block_of_unit g unit.block unit.number p.sized.span p.offered.more
 
   -- a page of another block is none of the unit's
@@ -229,7 +229,7 @@ module _ (g : Geometry) (unit : ReuseUnit) (h : Header) (old new : List (List �
   ]
 
   -- another block stays, and its live records only leave it
-  other_stays : over_gate g unit new ≡ true → (c : ℕ) → c ≢ unit.block → BlockStays g old new c
+  pub other_stays : over_gate g unit new ≡ true → (c : ℕ) → c ≢ unit.block → BlockStays g old new c
   other_stays charged c apart = record {
     pages = λ q here. other_block q (λ e. apart (sym here ∙ e));
     live = λ sector placed within e here. elim (cases_eq sector h.sector) [
