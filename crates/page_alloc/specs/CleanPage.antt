@@ -6,9 +6,9 @@ use Rattle.block_state.specs.Victim.{IsVictim}
 use Rattle.page_alloc.specs.declared.next_page.NextPage.{NextPage}
 use Rattle.page_alloc.specs.declared.next_page.NextPage.TheVariants.{Page, Take, Wipe, Collect}
 
--- the block is Clean
+-- the block is one of the book's, and Clean
 abbrev pub IsClean : BookValue → ℕ → Type 0
-IsClean v b = state_at v b ≡ Clean
+IsClean v b = (b < length v.states) × (state_at v b ≡ Clean)
 
 -- no block below n is Clean
 abbrev pub NoneCleanBelow : BookValue → ℕ → Type 0
