@@ -20,7 +20,7 @@ IsPageBranch v page = (b : ℕ) × (fill : ℕ) × (state_at v b ≡ Active fill
 
 -- take branch: no block is Active, and this is the lowest Clean one
 abbrev pub IsTakeBranch : BookValue → ℕ → Type 0
-IsTakeBranch v b = NoneActive v × IsClean v b × NoneCleanBelow v b × (b < length v.states)
+IsTakeBranch v b = NoneActive v × IsClean v b × NoneCleanBelow v b
 
 -- no block is Active or Clean
 abbrev pub NoneOpen : BookValue → Type 0

@@ -1,6 +1,6 @@
 //! The page after the last one written, else the lowest Clean block, else the victim: erased where nothing lives in it, and else
 //! collected into the Spare.
-ghost use Rattle.std.specs.Prelude.{◌≤◌, ◌<◌, length, IfSome, IfNone};
+ghost use Rattle.std.specs.Prelude.{◌≤◌, length, IfSome, IfNone};
 ghost use Rattle.block_state.specs.Book.{HasOneSpare};
 ghost use Rattle.page_alloc.specs.CleanPage.{IsNext, IsClean, NoneCleanBelow};
 
@@ -21,7 +21,7 @@ pub enum NextPage {
 
 /// The lowest Clean block.
 fn lowest_clean(book: &Book) -> Option<u32>
-    ensures found { IfSome result (λ b. IsClean book.now b × NoneCleanBelow book.now b × (b < length book.now.states)) }
+    ensures found { IfSome result (λ b. IsClean book.now b × NoneCleanBelow book.now b) }
     ensures none { IfNone result (NoneCleanBelow book.now (length book.now.states)) }
 {
     for block in 0..book.blocks() {

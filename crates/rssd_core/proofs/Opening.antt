@@ -73,10 +73,10 @@ opened_true g old new book table seq block sized blanks true_tables within not_s
 pub take_true : (g : Geometry) (cells : List (List ℕ)) (book : BookValue) (table : List (Option Entry)) (seq block : ℕ) → IsSized g
     → IsTrue g cells book table seq → IsTakeBranch book block → IsTrue g cells (with_state book block (Active 0)) table seq
 take_true g cells book table seq block sized true_tables take =
-    let inside : block < g.blocks = subst (λ (n : ℕ). block < n) true_tables.sizes.blocks take.3 in
+    let inside : block < g.blocks = subst (λ (n : ℕ). block < n) true_tables.sizes.blocks take.1.0 in
     opened_true g cells cells book table seq block sized (record {
       live = λ sector. refl;
       headers = λ place h e. e;
       others = λ page apart. refl;
-      blank = λ page here. blank_in_block g cells block page sized.pages (subst (IsTrueState g cells block) take.1 (true_tables.states block inside)) here;
-    }) true_tables take.3 (ap is_spare take.1) take.0
+      blank = λ page here. blank_in_block g cells block page sized.pages (subst (IsTrueState g cells block) take.1.1 (true_tables.states block inside)) here;
+    }) true_tables take.1.0 (ap is_spare take.1.1) take.0
