@@ -25,6 +25,12 @@ active_within v b fill e = elim (cases_lt b (length v.states)) [
   | inr past ↦ absurd (false≢true (sym (ap is_active (get_or_past v.states b Clean past)) ∙ ap is_active e))
 ]
 
+pub spare_within : (v : BookValue) (b : ℕ) → IsSpare v b → b < length v.states
+spare_within v b e = elim (cases_lt b (length v.states)) [
+  | inl within ↦ within
+  | inr past ↦ absurd (false≢true (sym (ap is_spare (get_or_past v.states b Clean past)) ∙ e))
+]
+
 pub valid_state : (v : BookValue) (b : ℕ) (s : State) → IsValid v → b < length v.states → InRange v.pages v.units v.generations s
     → (IsTrue (is_active s) → (c : ℕ) → IsActive v c → c ≡ b) → IsValid (with_state v b s)
 valid_state v b s valid within fits one = record {
