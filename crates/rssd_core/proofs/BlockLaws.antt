@@ -12,13 +12,8 @@ use Rattle.page_codec.specs.Geometry.{Geometry, block_of, units, unit_page, spar
 use Rattle.page_codec.specs.Records.{Placed, live_record}
 use Rattle.page_codec.specs.Sound.{live_count, stands_in}
 use Rattle.page_codec.specs.TrueBook.{BlankAbove, IsTrueState, IsTrueSpare, IsTrueActive, IsTrueUsed, IsTrueRecycled, is_block_blank}
+use Rattle.rssd_core.specs.Steps.{IsSized}
 use Rattle.collector.proofs.Counting.{none_pass, none_passes}
-
--- a device has pages, units of some pages, and two slots a page or three
-pub record IsSized (g : Geometry) : Type 0 where
-  pub pages : 0 < g.pages
-  pub span : 0 < g.span
-  pub two_slots : 2 ≤ g.generations
 
 -- the pages of a block
 pub block_of_page : (g : Geometry) (block i : ℕ) → i < g.pages → block_of g (block * g.pages + i) ≡ block

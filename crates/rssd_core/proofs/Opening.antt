@@ -18,7 +18,8 @@ use Rattle.page_codec.specs.TrueBook.{IsTrue, IsTrueState, IsNextSeq, HasSizes, 
 use Rattle.page_codec.proofs.SoundErase.{live_count_same}
 use Rattle.collector.proofs.Books.{valid_state, state_here, state_there, spare_stays}
 use Rattle.rssd_core.proofs.BlankPages.{blank_slot}
-use Rattle.rssd_core.proofs.BlockLaws.{IsSized, BlockStays, state_stays, block_of_page, block_of_unit, blank_in_block}
+use Rattle.rssd_core.specs.Steps.{IsSized}
+use Rattle.rssd_core.proofs.BlockLaws.{BlockStays, state_stays, block_of_page, block_of_unit, blank_in_block}
 
 -- no live record changes, headers only vanish, and the pages of this block alone change: they are blank
 pub record Blanks (g : Geometry) (old new : List (List ℕ)) (block : ℕ) : Type 0 where

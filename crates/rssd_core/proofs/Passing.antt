@@ -21,7 +21,8 @@ use Rattle.page_codec.proofs.PutLaws.{header_after}
 use Rattle.collector.specs.Effects.{recorded, former_in, MayDrop}
 use Rattle.collector.proofs.Books.{SameStates, one_at, one_in, recorded_states, valid_recorded, recorded_live, valid_state, spare_stays, state_here, state_there}
 use Rattle.collector.proofs.Room.{has_room}
-use Rattle.rssd_core.proofs.BlockLaws.{IsSized, state_stays}
+use Rattle.rssd_core.specs.Steps.{IsSized}
+use Rattle.rssd_core.proofs.BlockLaws.{state_stays}
 use Rattle.rssd_core.proofs.Opening.{sizes_with_state}
 use Rattle.rssd_core.proofs.RecordLaws.{former_of, former_is, entry_is, live_moves, map_moves, may_drop}
 use Rattle.rssd_core.proofs.SecondWrite.{PutsOver, place_in, over_gate, none_committed, may, block_is, wins_from_gate, passed_state, other_stays}

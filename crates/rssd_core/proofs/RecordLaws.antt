@@ -23,7 +23,8 @@ use Rattle.collector.specs.Effects.{former_in, MayDrop}
 use Rattle.collector.proofs.Books.{one_at, one_in}
 use Rattle.collector.proofs.Room as room
 use Rattle.collector.proofs.Counting.{count_moves, one_passes}
-use Rattle.rssd_core.proofs.BlockLaws.{IsSized, stands_here}
+use Rattle.rssd_core.specs.Steps.{IsSized}
+use Rattle.rssd_core.proofs.BlockLaws.{stands_here}
 use Rattle.rssd_core.proofs.Wiping.{live_within}
 
 -- the block of a sector's former live record, if it had one

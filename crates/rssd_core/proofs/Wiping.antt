@@ -40,7 +40,8 @@ use Rattle.page_codec.proofs.PutUnit.{blank_ungated}
 use Rattle.page_codec.proofs.PutStored.{pages_read, said_stays}
 use Rattle.page_codec.proofs.SoundErase.{TearsBlock, tear_keeps_live, tear_keeps_sound, tear_keeps_stored, header_kept, unit_in_block, unit_page_from_slot}
 use Rattle.rssd_core.proofs.BlankPages.{blank_slot, blank_header}
-use Rattle.rssd_core.proofs.BlockLaws.{IsSized, none_stands, block_of_page, page_in_block}
+use Rattle.rssd_core.specs.Steps.{IsSized}
+use Rattle.rssd_core.proofs.BlockLaws.{none_stands, block_of_page, page_in_block}
 use Rattle.rssd_core.proofs.Opening.{Blanks, opened_true}
 
 -- ---- a live record is one of a sector of the device

@@ -2,6 +2,7 @@
 #![tactic(auto)]
 
 pub mod device;
+mod at_hand;
 mod ftl;
 mod page;
 
