@@ -16,7 +16,7 @@ use Rattle.mount_scan.specs.New.{IsNew}
 use Rattle.mount_scan.specs.Noted.{is_entry_in, newest_in, next_seq, IsReading, Scanned}
 use Rattle.mount_scan.proofs.Reading.{ones}
 
-all_default : {X : Type 0} (n i : ℕ) (x : X) → get_or (replicate n x) i x ≡ x
+pub all_default : {X : Type 0} (n i : ℕ) (x : X) → get_or (replicate n x) i x ≡ x
 all_default n i x = elim (cases_lt i n) [
   | inl inside ↦ get_or-replicate n i x x inside
   | inr past ↦ get_or_past (replicate n x) i x (subst (λ k. k ≤ i) (sym (length-replicate n x)) past)

@@ -8,3 +8,8 @@ pub mod AllSlots
 pub mod Settling
 pub mod Fresh
 pub mod MountedBook
+pub mod PageReads
+pub mod Sights
+pub mod Blocks
+pub mod TrueRun
+pub mod TrueMount

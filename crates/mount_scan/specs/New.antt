@@ -1,5 +1,5 @@
 -- Tables before the first read.
-use Rattle.std.specs.Prelude.{◌≡◌, ℕ, ◌/◌, [], length, replicate, None}
+use Rattle.std.specs.Prelude.{◌≡◌, ℕ, ◌/◌, ◌<◌, [], length, replicate, None}
 use Rattle.cell_die.specs.declared.shape.Shape.{Shape}
 use Rattle.block_state.specs.declared.state.State.TheVariants.{Clean}
 use Rattle.mount_scan.specs.declared.tables.Tables.{Tables}
@@ -20,3 +20,6 @@ pub record IsNew (shape : Shape) (sectors span generations : ℕ) (tables : Tabl
   pub seqs : length tables.seqs.items ≡ sectors
   pub found : length tables.found.items ≡ shape.blocks
   pub unit_pages : tables.span ≡ span
+  -- a unit has a page, and a block has a unit
+  pub some_pages : 0 < span
+  pub some_units : 0 < shape.pages / span

@@ -101,6 +101,8 @@ pub(crate) fn note(tables: &mut Tables, place: Place, header: &Header)
     ensures room { MoreAt (place.page / tables.old.book.pages) 1 tables.old tables.new }
     ensures same_blocks { SameBlocks tables.old.book tables.new.book }
     ensures same_sectors { length tables.new.map ≡ length tables.old.map }
+    ensures same_found { tables.new.found ≡ tables.old.found }
+    ensures same_span { tables.new.span ≡ tables.old.span }
 {
     let former = tables.map.get(header.sector);
     let former_seq = tables.seqs[header.sector as usize];

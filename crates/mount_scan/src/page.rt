@@ -17,6 +17,8 @@ pub(crate) fn note_page(tables: &mut Tables, page: u32, seen: &Seen, unit: bool,
     ensures room { MoreAt (page / tables.old.book.pages) tables.old.book.generations tables.old tables.new }
     ensures same_blocks { SameBlocks tables.old.book tables.new.book }
     ensures same_sectors { length tables.new.map ≡ length tables.old.map }
+    ensures same_found { tables.new.found ≡ tables.old.found }
+    ensures same_span { tables.new.span ≡ tables.old.span }
     ensures scans { ScansPage page seen.now unit sealed tables.old tables.new }
 {
     let generations = tables.book.generations();

@@ -30,6 +30,8 @@ pub(crate) fn note_slot(tables: &mut Tables, place: Place, slot: &SeenSlot, may:
     ensures room { MoreAt (place.page / tables.old.book.pages) 1 tables.old tables.new }
     ensures same_blocks { SameBlocks tables.old.book tables.new.book }
     ensures same_sectors { length tables.new.map ≡ length tables.old.map }
+    ensures same_found { tables.new.found ≡ tables.old.found }
+    ensures same_span { tables.new.span ≡ tables.old.span }
 {
     let Some(header) = slot.header else {
         return;

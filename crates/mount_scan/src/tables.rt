@@ -37,7 +37,7 @@ impl Tables {
         generations: u32,
     ) -> Result<Tables, OutOfMemory>
         requires blocks { shape.blocks ≤ 1024 }
-        requires pages { shape.pages ≤ 128 }
+        requires pages { (2 ≤ shape.pages) × (shape.pages ≤ 128) }
         requires span { (1 ≤ span) × (span ≤ 2) }
         requires generations { (2 ≤ generations) × (generations ≤ 3) }
         ensures { IfOk result (IsNew shape sectors span generations) }
