@@ -5,5 +5,6 @@ pub mod device;
 mod at_hand;
 mod ftl;
 mod page;
+pub mod whole;
 
 pub use ftl::{Ftl, FtlError, MountError, Placed, Plan, Refused, mount};
