@@ -5,6 +5,7 @@ pub mod device;
 mod at_hand;
 mod ftl;
 mod page;
+mod row;
 pub mod whole;
 
 pub use ftl::{Ftl, FtlError, MountError, Placed, Plan, Refused, mount};

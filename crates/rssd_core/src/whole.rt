@@ -10,10 +10,11 @@ ghost use Rattle.rssd_core.specs.Outcomes.{Holds, OnlyDie};
 ghost use Rattle.rssd_core.specs.Within.{sector_reads};
 
 use crate::device::{Counts, FtlError};
+use crate::row::get_row;
 use block_state::Book;
 use cell_die::{Die, DieFault, PowerDie, Torn};
-use page_codec::{Place, Work, get};
-use sector_map::{Entry, SectorMap};
+use page_codec::Work;
+use sector_map::SectorMap;
 use std::marker::Model;
 use striped::Scheme;
 
@@ -122,18 +123,12 @@ impl<D: Die + Drop, C: Scheme + Drop> Ftl<D, C> {
         if self.stopped {
             return Err(FtlError::Stopped);
         }
-        let Some(Entry::Held(held)) = self.map.get(sector) else {
-            into.fill(0);
-            return Ok(());
-        };
-        let place = Place {
-            page: held.page,
-            slot: held.slot,
-        };
-        match get(&mut self.die, &self.scheme, &mut self.work, place, into) {
-            Ok(()) => Ok(()),
-            Err(DieFault) => Err(FtlError::DieFault),
+        let entry = self.map.get(sector);
+        match get_row(&mut self.die, &self.scheme, &mut self.work, entry, into) {
+            Err(DieFault) => return Err(FtlError::DieFault),
+            Ok(()) => {}
         }
+        Ok(())
     }
 }
 
