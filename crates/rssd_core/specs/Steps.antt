@@ -1,5 +1,5 @@
 -- The steps of a write or trim, each over the die, the map, the book and the next seq.
-use Rattle.std.specs.Prelude.{◌≡◌, ◌≢◌, ◌⊎◌, ℕ, ◌+◌, ◌*◌, ◌<◌, ◌≤◌, List, Option, Some, slice_set}
+use Rattle.std.specs.Prelude.{◌≡◌, ◌≢◌, ◌⊎◌, ℕ, ◌+◌, ◌*◌, ◌^◌, ◌<◌, ◌≤◌, List, Option, Some, slice_set}
 use Rattle.zero_count.specs.declared.Header.{Header}
 use Rattle.cell_die.specs.Calls.{Passed, ChangeFailed}
 use Rattle.striped.specs.Meaning.{Decoding}
@@ -7,6 +7,12 @@ use Rattle.sector_map.specs.declared.entry.Entry.{Entry}
 use Rattle.sector_map.specs.Entry.{entry_at}
 use Rattle.block_state.specs.declared.state.State.TheVariants.{Active}
 use Rattle.block_state.specs.Book.{BookValue, state_at}
+use Rattle.page_alloc.specs.CleanPage.{IsPageBranch}
+use Rattle.rssd_core.specs.Rules.{next_page}
+use Rattle.rssd_core.specs.BookChanges.{Change, Leads, EachOnce, passes}
+use Rattle.rssd_core.specs.Calls.{calls_before, collection_reads, named_page}
+use Rattle.rssd_core.specs.Moves.{sealed_records}
+use Rattle.rssd_core.specs.Within.{Went, IsCollect}
 use Rattle.page_codec.specs.Geometry.{Geometry}
 use Rattle.page_codec.specs.Puts.{first_slot}
 use Rattle.page_codec.specs.Records.{live_record}
@@ -42,6 +48,21 @@ pub record PutNext (g : Geometry) (d : Decoding) (page : ℕ) (h : Header) (row 
   pub seq : new.seq ≡ old.seq + 1
   pub tables : IsTrueStore g new
   pub calls : Passed 2 0 old.die new.die
+
+-- A page is at hand that was named before: the Active block's next one, or that of a block that was taken, wiped or collected
+-- into. Some records were moved, and no sector changed.
+pub record Opened (g : Geometry) (d : Decoding) (page rise : ℕ) (old new : Store) : Type 0 where
+  pub changes : List Change
+  pub leads : (reuse_max : ℕ) → Leads reuse_max old.book changes new.book
+  pub once : EachOnce changes
+  pub none_passed : passes changes ≡ 0
+  pub rises : rise ≡ sealed_records old.book changes
+  pub named : page ≡ named_page old.book (next_page old.book)
+  pub branch : IsPageBranch new.book page
+  pub rows : SameRows g d old new
+  pub few : new.seq < old.seq + 2 ^ 7
+  pub tables : IsTrueStore g new
+  pub calls : Went (calls_before old.book (next_page old.book)) (collection_reads g old.die.cells (next_page old.book)) (IsCollect (next_page old.book)) old.die new.die
 
 -- A change call of such a put failed: the row is as before or set, and one seq was drawn.
 pub record PutNextFailed (g : Geometry) (d : Decoding) (h : Header) (row : List ℕ) (old new : Store) : Type 0 where
