@@ -1,19 +1,28 @@
 -- The steps of a write or trim, each over the die, the map, the book and the next seq.
-use Rattle.std.specs.Prelude.{◌≡◌, ◌≢◌, ◌⊎◌, ℕ, ◌+◌, ◌*◌, ◌^◌, ◌<◌, ◌≤◌, List, Option, Some, slice_set}
+use Rattle.std.specs.Prelude.{◌≡◌, ◌≢◌, ◌⊎◌, ℕ, ◌+◌, ◌*◌, ◌^◌, ◌<◌, ◌≤◌, true, List, Option, Some, Result, Ok, Err, slice_set}
 use Rattle.zero_count.specs.declared.Header.{Header}
-use Rattle.cell_die.specs.Calls.{Passed, ChangeFailed}
+use Rattle.cell_die.specs.Cells.{IsAbove}
+use Rattle.cell_die.specs.Changes.{SameCells}
+use Rattle.cell_die.specs.Calls.{Passed, ChangeFailed, ReadFailed}
+use Rattle.wom_code.specs.declared.code.Carry.{Carry}
+use Rattle.wom_code.specs.declared.code.Carry.TheVariants.{Carried, Declined}
+use Rattle.page_codec.specs.declared.fault.PutFault.{PutFault}
+use Rattle.page_codec.specs.declared.fault.PutFault.TheVariants as faults
+use Rattle.page_codec.specs.declared.place.Place.{Place}
+use Rattle.reuse_pool.specs.declared.unit.ReuseUnit.{ReuseUnit}
+use Rattle.reuse_pool.specs.Offer.{passed}
 use Rattle.striped.specs.Meaning.{Decoding}
 use Rattle.sector_map.specs.declared.entry.Entry.{Entry}
 use Rattle.sector_map.specs.Entry.{entry_at}
 use Rattle.block_state.specs.declared.state.State.TheVariants.{Active}
-use Rattle.block_state.specs.Book.{BookValue, state_at}
+use Rattle.block_state.specs.Book.{BookValue, state_at, with_state}
 use Rattle.page_alloc.specs.CleanPage.{IsPageBranch}
 use Rattle.rssd_core.specs.Rules.{next_page}
 use Rattle.rssd_core.specs.BookChanges.{Change, Leads, EachOnce, passes}
 use Rattle.rssd_core.specs.Calls.{calls_before, collection_reads, named_page}
 use Rattle.rssd_core.specs.Moves.{sealed_records}
 use Rattle.rssd_core.specs.Within.{Went, IsCollect}
-use Rattle.page_codec.specs.Geometry.{Geometry}
+use Rattle.page_codec.specs.Geometry.{Geometry, unit_page, unit_at}
 use Rattle.page_codec.specs.Puts.{first_slot}
 use Rattle.page_codec.specs.Records.{live_record}
 use Rattle.page_codec.specs.Sectors.{stored}
@@ -69,3 +78,56 @@ pub record PutNextFailed (g : Geometry) (d : Decoding) (h : Header) (row : List 
   pub same : new ≡ record old { die = new.die; seq = old.seq + 1 }
   pub rows : SameRows g d old new ⊎ SetsRow g d h.sector row old new
   pub failed : ChangeFailed 2 0 old.die new.die
+
+-- ---- the offered unit
+
+-- the slot that a unit offers, on the unit's first page
+abbrev pub place_in : Geometry → ReuseUnit → Place
+place_in g unit = record { page = unit_page g unit.block unit.number; slot = unit.slot }
+
+-- the main bytes of a unit
+abbrev pub bytes_in : Geometry → Store → ReuseUnit → List ℕ
+bytes_in g store unit = unit_at g store.die.cells (unit_page g unit.block unit.number)
+
+-- the unit is passed
+abbrev pub passing : BookValue → ReuseUnit → BookValue
+passing book unit = with_state book unit.block (passed book unit)
+
+-- A record stands over the offered unit, the record effect followed, and the unit is passed.
+pub record PutOver (g : Geometry) (d : Decoding) (unit : ReuseUnit) (h : Header) (row : List ℕ) (old new : Store) : Type 0 where
+  pub live : live_record g new.die.cells h.sector ≡ Some (record { place = place_in g unit; header = h })
+  pub others : (sector : ℕ) → sector ≢ h.sector → live_record g new.die.cells sector ≡ live_record g old.die.cells sector
+  pub rows : SetsRow g d h.sector row old new
+  pub above : IsAbove (bytes_in g new unit) (bytes_in g old unit)
+  pub carries : d.second_carries (bytes_in g new unit) row ≡ true
+  pub book : new.book ≡ passing (recorded old.book unit.block (former_block old.book old.table h.sector)) unit
+  pub seq : new.seq ≡ old.seq + 1
+  pub tables : IsTrueStore g new
+  pub calls : Passed (g.span + 1) g.span old.die new.die
+
+-- No cells above the unit's carry the sector: the unit is passed, and nothing else changed.
+pub record OverDeclined (g : Geometry) (d : Decoding) (unit : ReuseUnit) (row : List ℕ) (old new : Store) : Type 0 where
+  pub same : new ≡ record old { die = new.die; book = passing old.book unit }
+  pub cells : SameCells old.die new.die
+  pub none : (cells : List ℕ) → IsAbove cells (bytes_in g old unit) → d.second_carries cells row ≡ true → ⊥
+  pub tables : IsTrueStore g new
+  pub calls : Passed 0 g.span old.die new.die
+
+-- A read of the unit failed: nothing changed.
+pub record OverReadFailed (g : Geometry) (old new : Store) : Type 0 where
+  pub same : new ≡ record old { die = new.die }
+  pub cells : SameCells old.die new.die
+  pub failed : ReadFailed 0 g.span old.die new.die
+
+-- A change call failed: the row is as before or set, and one seq was drawn.
+pub record OverChangeFailed (g : Geometry) (d : Decoding) (h : Header) (row : List ℕ) (old new : Store) : Type 0 where
+  pub same : new ≡ record old { die = new.die; seq = old.seq + 1 }
+  pub rows : SameRows g d old new ⊎ SetsRow g d h.sector row old new
+  pub failed : ChangeFailed (g.span + 1) g.span old.die new.die
+
+-- how a put over the offered unit ends
+abbrev pub OverEnds : Geometry → Decoding → ReuseUnit → Header → List ℕ → Result Carry PutFault → Store → Store → Type 0
+OverEnds g d unit h row (Ok Carried) old new = PutOver g d unit h row old new
+OverEnds g d unit h row (Ok Declined) old new = OverDeclined g d unit row old new
+OverEnds g d unit h row (Err (faults.Read)) old new = OverReadFailed g old new
+OverEnds g d unit h row (Err (faults.Change)) old new = OverChangeFailed g d h row old new

@@ -4,6 +4,7 @@
 pub mod device;
 mod at_hand;
 mod ftl;
+mod over;
 mod page;
 mod row;
 pub mod whole;
