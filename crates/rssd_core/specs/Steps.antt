@@ -15,7 +15,8 @@ use Rattle.striped.specs.Meaning.{Decoding}
 use Rattle.sector_map.specs.declared.entry.Entry.{Entry}
 use Rattle.sector_map.specs.Entry.{entry_at}
 use Rattle.block_state.specs.declared.state.State.TheVariants.{Active}
-use Rattle.block_state.specs.Book.{BookValue, state_at, with_state}
+use Rattle.block_state.specs.Book.{BookValue, state_at, live_at, with_state}
+use Rattle.page_alloc.specs.declared.next_page.NextPage.TheVariants.{Collect}
 use Rattle.page_alloc.specs.CleanPage.{IsPageBranch}
 use Rattle.rssd_core.specs.Rules.{next_page}
 use Rattle.rssd_core.specs.BookChanges.{Change, Leads, EachOnce, passes}
@@ -66,6 +67,7 @@ pub record Opened (g : Geometry) (d : Decoding) (page rise : ℕ) (old new : Sto
   pub once : EachOnce changes
   pub none_passed : passes changes ≡ 0
   pub rises : rise ≡ sealed_records old.book changes
+  pub collected : (victim spare : ℕ) → next_page old.book ≡ Collect victim spare → rise ≡ live_at old.book victim
   pub named : page ≡ named_page old.book (next_page old.book)
   pub branch : IsPageBranch new.book page
   pub rows : SameRows g d old new
