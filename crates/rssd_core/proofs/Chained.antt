@@ -110,6 +110,24 @@ cut_later c r d s old mid new first then power came = at old.failures mid.failur
     at (Some a) None near power armed = absurd near
     at (Some a) (Some b) near power armed = (near power).cut_to_come armed
 
+-- a cut that came was at most so many calls away
+pub cut_within : (c r : ℕ) (old new : DieState) → ChangeFailed c r old new → TellsPower old → CutCame old new → cut_of old ≤ c
+cut_within c r old new failed power came = at old.failures new.failures failed.failures power came.0
+  where
+    at : (x y : Option Failures) → WhilePowered x y (cell.CutCame c r) → IsSomeAnd x (λ failures. failures.powered ≡ true) → 0 < cut_in x → cut_in x ≤ c
+    at None y cut power armed = absurd (omega arith)
+    at (Some a) None cut power armed = absurd cut
+    at (Some a) (Some b) cut power armed = (cut power).within
+
+-- where a read failed no cut came
+pub read_failed_no_cut : (c r : ℕ) (old new : DieState) → ReadFailed c r old new → TellsPower old → CutCame old new → ⊥
+read_failed_no_cut c r old new failed power came = at old.failures new.failures failed.failures power came.0 came.1
+  where
+    at : (x y : Option Failures) → WhilePowered x y (cell.ReadFailureCame c r) → IsSomeAnd x (λ failures. failures.powered ≡ true) → 0 < cut_in x → cut_in y ≡ 0 → ⊥
+    at None y read power armed gone = absurd (omega arith)
+    at (Some a) None read power armed gone = absurd read
+    at (Some a) (Some b) read power armed gone = let to_come = (read power).cut_to_come armed in omega (arith, to_come, gone)
+
 -- where no call failed no cut came
 pub no_cut_came : (c r : ℕ) (old new : DieState) → PassedWithin c r old new → TellsPower old → CutCame old new → ⊥
 no_cut_came c r old new passed power came = at old.failures new.failures passed.failures power came.0 came.1

@@ -26,8 +26,12 @@ use Rattle.rssd_core.proofs.Wiping.{Erasing, wipe_true, wipe_stored}
 
 -- the calls by what comes next
 calls_of : (g : Geometry) (old new : Store) (n : NextPage) → next_page old.book ≡ n → Went (calls_before old.book n) (collection_reads g old.die.cells n) (IsCollect n) old.die new.die
-    → Went (calls_before old.book (next_page old.book)) (collection_reads g old.die.cells (next_page old.book)) (IsCollect (next_page old.book)) old.die new.die
-calls_of g old new n is = subst (λ (m : NextPage). Went (calls_before old.book m) (collection_reads g old.die.cells m) (IsCollect m) old.die new.die) (sym is)
+    → Went (calls_before old.book (next_page old.book)) (0 + collection_reads g old.die.cells (next_page old.book)) (IsCollect (next_page old.book)) old.die new.die
+calls_of g old new n is w = subst (λ (m : NextPage). Went (calls_before old.book m) (0 + collection_reads g old.die.cells m) (IsCollect m) old.die new.die) (sym is)
+    (subst (λ (r : ℕ). Went (calls_before old.book n) r (IsCollect n) old.die new.die) (none_plus (collection_reads g old.die.cells n)) w)
+  where
+    none_plus : (r : ℕ) → r ≡ 0 + r
+    none_plus r = omega arith
 
 not_collected : (n : NextPage) → (IsCollect n → ⊥) → (victim spare : ℕ) → n ≡ Collect victim spare → ⊥
 not_collected n other victim spare is = other (subst IsCollect (sym is) tt)
@@ -37,7 +41,7 @@ opened_page g d page old t branch = record {
   changes = [];
   leads = λ reuse_max. leads_none reuse_max old.book;
   once = record { takes = omega arith; wipes = omega arith; erases = omega arith; copies = omega arith; seals = omega arith };
-  none_passed = refl;
+  passed_so = refl;
   rises = refl;
   collected = λ victim spare is. absurd (not_collected (Page page) (λ x. x) victim spare (sym next ∙ is));
   named = ap (named_page old.book) (sym next);
@@ -57,7 +61,7 @@ opened_take g d block page old sized t take at = record {
   changes = Takes block ∷ [];
   leads = λ reuse_max. leads_one reuse_max old.book (with_state old.book block (Active 0)) (Takes block) (next, refl);
   once = record { takes = omega arith; wipes = omega arith; erases = omega arith; copies = omega arith; seals = omega arith };
-  none_passed = refl;
+  passed_so = refl;
   rises = refl;
   collected = λ victim spare is. absurd (not_collected (Take block) (λ x. x) victim spare (sym next ∙ is));
   named = at ∙ ap (named_page old.book) (sym next);
@@ -80,7 +84,7 @@ opened_wipe g d block page old die e erased passed t wipe at = record {
   changes = Wipes block ∷ [];
   leads = λ reuse_max. leads_one reuse_max old.book (with_state old.book block (Active 0)) (Wipes block) (next, refl);
   once = record { takes = omega arith; wipes = omega arith; erases = omega arith; copies = omega arith; seals = omega arith };
-  none_passed = refl;
+  passed_so = refl;
   rises = refl;
   collected = λ victim spare is. absurd (not_collected (Wipe block) (λ x. x) victim spare (sym next ∙ is));
   named = at ∙ ap (named_page old.book) (sym next);

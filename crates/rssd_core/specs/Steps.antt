@@ -27,6 +27,7 @@ use Rattle.page_codec.specs.Geometry.{Geometry, unit_page, unit_at}
 use Rattle.page_codec.specs.Puts.{first_slot}
 use Rattle.page_codec.specs.Records.{live_record}
 use Rattle.page_codec.specs.Sectors.{stored}
+use Rattle.page_codec.specs.Sound.{IsSound}
 use Rattle.collector.specs.Effects.{filled, recorded, former_in}
 use Rattle.collector.specs.Store.{Store, IsTrueStore, SameRows}
 
@@ -60,12 +61,12 @@ pub record PutNext (g : Geometry) (d : Decoding) (page : ℕ) (h : Header) (row 
   pub calls : Passed 2 0 old.die new.die
 
 -- A page is at hand that was named before: the Active block's next one, or that of a block that was taken, wiped or collected
--- into. Some records were moved, and no sector changed.
-pub record Opened (g : Geometry) (d : Decoding) (page rise : ℕ) (old new : Store) : Type 0 where
+-- into. Some records were moved, and no sector changed. So many units were passed and so many reads were made before.
+pub record OpenedAfter (g : Geometry) (d : Decoding) (passed before page rise : ℕ) (old new : Store) : Type 0 where
   pub changes : List Change
   pub leads : (reuse_max : ℕ) → Leads reuse_max old.book changes new.book
   pub once : EachOnce changes
-  pub none_passed : passes changes ≡ 0
+  pub passed_so : passes changes ≡ passed
   pub rises : rise ≡ sealed_records old.book changes
   pub collected : (victim spare : ℕ) → next_page old.book ≡ Collect victim spare → rise ≡ live_at old.book victim
   pub named : page ≡ named_page old.book (next_page old.book)
@@ -73,7 +74,33 @@ pub record Opened (g : Geometry) (d : Decoding) (page rise : ℕ) (old new : Sto
   pub rows : SameRows g d old new
   pub few : new.seq < old.seq + 2 ^ 7
   pub tables : IsTrueStore g new
-  pub calls : Went (calls_before old.book (next_page old.book)) (collection_reads g old.die.cells (next_page old.book)) (IsCollect (next_page old.book)) old.die new.die
+  pub calls : Went (calls_before old.book (next_page old.book)) (before + collection_reads g old.die.cells (next_page old.book)) (IsCollect (next_page old.book)) old.die new.die
+
+abbrev pub Opened : Geometry → Decoding → ℕ → ℕ → Store → Store → Type 0
+Opened g d page rise old new = OpenedAfter g d 0 0 page rise old new
+
+-- A read of a collection failed: nothing was sealed, and no sector changed.
+pub record OpenReadFailed (g : Geometry) (d : Decoding) (passed before : ℕ) (old new : Store) : Type 0 where
+  pub changes : List Change
+  pub leads : (reuse_max : ℕ) → Leads reuse_max old.book changes new.book
+  pub once : EachOnce changes
+  pub passed_so : passes changes ≡ passed
+  pub none_sealed : sealed_records old.book changes ≡ 0
+  pub rows : SameRows g d old new
+  pub few : new.seq < old.seq + 2 ^ 7
+  pub tables : IsTrueStore g new
+  pub failed : ReadFailed (calls_before old.book (next_page old.book)) (before + collection_reads g old.die.cells (next_page old.book)) old.die new.die
+
+-- A change call of a wipe or of a collection failed: nothing was sealed, and over sound cells no sector changed.
+pub record OpenChangeFailed (g : Geometry) (d : Decoding) (passed before : ℕ) (old new : Store) : Type 0 where
+  pub changes : List Change
+  pub leads : (reuse_max : ℕ) → Leads reuse_max old.book changes new.book
+  pub once : EachOnce changes
+  pub passed_so : passes changes ≡ passed
+  pub none_sealed : sealed_records old.book changes ≡ 0
+  pub rows : IsSound g old.die.cells → SameRows g d old new
+  pub few : new.seq < old.seq + 2 ^ 7
+  pub failed : ChangeFailed (calls_before old.book (next_page old.book)) (before + collection_reads g old.die.cells (next_page old.book)) old.die new.die
 
 -- A change call of such a put failed: the row is as before or set, and one seq was drawn.
 pub record PutNextFailed (g : Geometry) (d : Decoding) (h : Header) (row : List ℕ) (old new : Store) : Type 0 where
