@@ -12,7 +12,7 @@ use Rattle.spare_gate.specs.Slots.{with_record}
 use Rattle.page_codec.specs.Puts.{Puts}
 use Rattle.page_codec.proofs.PutLaws.{PutsCells}
 
-byte_at : (row : List ℕ) → All (λ byte. byte < 256) row → (k : ℕ) → slice_index row k < 2 ^ 8
+pub byte_at : (row : List ℕ) → All (λ byte. byte < 256) row → (k : ℕ) → slice_index row k < 2 ^ 8
 byte_at row all k = elim (cases_lt k (length row)) [
   | inl within ↦ all k 0 within
   | inr past ↦ subst (λ (byte : ℕ). byte < 2 ^ 8) (sym (get_or_past row k 0 past)) (omega arith)

@@ -49,7 +49,7 @@ said_option g d old new None f = refl
 said_option g d old new (Some x) f = said_same g d old new x (f x refl)
 
 -- a sector whose live record stays, and is read from pages that stay, stays
-said_stays : (g : Geometry) (d : Decoding) (old new : List (List ℕ)) (sector : ℕ) → NoneReads g old new → live_record g new sector ≡ live_record g old sector → said_by g d new (live_record g new sector) ≡ said_by g d old (live_record g old sector)
+pub said_stays : (g : Geometry) (d : Decoding) (old new : List (List ℕ)) (sector : ℕ) → NoneReads g old new → live_record g new sector ≡ live_record g old sector → said_by g d new (live_record g new sector) ≡ said_by g d old (live_record g old sector)
 said_stays g d old new sector none same = ap (said_by g d new) same ∙ said_option g d old new (live_record g old sector) (none sector)
 
 -- Where the gate is not charged, every stored sector stays.

@@ -43,7 +43,7 @@ word_fell : (g : Geometry) (old new : List (List ℕ)) (block : ℕ) → TearsBl
 word_fell g old new block t page slot e = above_take _ _ _ (above_drop (16 * slot + 1) _ _ (above_drop g.main_bytes _ _ (t.fell page e)))
 
 -- a valid header after the tear stood there before it
-header_kept : (g : Geometry) (old new : List (List ℕ)) (block : ℕ) → TearsBlock g old new block → (place : Place) (h : Header) → header_in g new place ≡ Some h → header_in g old place ≡ Some h
+pub header_kept : (g : Geometry) (old new : List (List ℕ)) (block : ℕ) → TearsBlock g old new block → (place : Place) (h : Header) → header_in g new place ≡ Some h → header_in g old place ≡ Some h
 header_kept g old new block t place h e = elim (cases_eq (block_of g place.page) block) [
   | inr apart ↦ ap (λ (bytes : List ℕ). header_of (word_at (drop g.main_bytes bytes) place.slot)) (sym (t.others place.page apart)) ∙ e
   | inl here ↦ (
@@ -78,7 +78,7 @@ tear_keeps_sound g old new block t = record {
 -- ---- the sectors
 
 -- the pages of a unit stand in one block
-unit_in_block : (g : Geometry) (page k : ℕ) → 0 < g.pages → 0 < g.span → is_unit_page g page ≡ true → k < g.span → block_of g (page + k) ≡ block_of g page
+pub unit_in_block : (g : Geometry) (page k : ℕ) → 0 < g.pages → 0 < g.span → is_unit_page g page ≡ true → k < g.span → block_of g (page + k) ≡ block_of g page
 unit_in_block g page k some spans h l =
     let p = and_parts _ _ h in
     let even : page % g.pages % g.span ≡ 0 = eqb-true _ _ p.0 in
@@ -97,7 +97,7 @@ flat_map_same f h a (suc n) e =
     ap₂ (λ (x y : List ℕ). x ++ y) (subst (λ (z : ℕ). f z ≡ h z) (omega arith) (e 0 (omega arith)))
     (flat_map_same f h (a + 1) n (λ k l. subst (λ (z : ℕ). f z ≡ h z) (omega arith) (e (suc k) (omega arith))))
 
-unit_page_from_slot : (g : Geometry) (place : Place) → may_hold g place ≡ true → place.slot ≢ 0 → is_unit_page g place.page ≡ true
+pub unit_page_from_slot : (g : Geometry) (place : Place) → may_hold g place ≡ true → place.slot ≢ 0 → is_unit_page g place.page ≡ true
 unit_page_from_slot g place h n = elim (or_cases _ _ (and_parts _ _ h).1) [
   | inl zero_slot ↦ absurd (n (eqb-true place.slot 0 zero_slot))
   | inr more ↦ (and_parts _ _ more).1

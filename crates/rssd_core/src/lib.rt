@@ -2,7 +2,11 @@
 #![tactic(auto)]
 
 pub mod device;
+mod at_hand;
 mod ftl;
+mod over;
 mod page;
+mod row;
+pub mod whole;
 
 pub use ftl::{Ftl, FtlError, MountError, Placed, Plan, Refused, mount};

@@ -1,0 +1,165 @@
+//! The whole device: numbered sectors over a die with a scheme. Writes go over offered units or to clean pages, a wipe or a
+//! collection gets a clean page where none is at hand, and blocks whose records are gone offer their units.
+ghost use Rattle.std.specs.Prelude.{◌≡◌, ◌≢◌, ◌<◌, ◌≤◌, ◌↔◌, ◌^◌, true, false, length, slice_index_or, [], OnOk, OnErr, IfOk, IsErrOf, IfSome};
+ghost use Rattle.cell_die.specs.Counts.{sum_of};
+ghost use Rattle.cell_die.specs.Calls.{Passed, ReadFailed};
+ghost use Rattle.cell_die.specs.Power.{told, with_cut, with_read_failure};
+ghost use Rattle.rssd_core.specs.DeviceValue.{DeviceValue, rows_of, with_die};
+ghost use Rattle.rssd_core.specs.Parts.{device_of};
+ghost use Rattle.rssd_core.specs.Outcomes.{Holds, OnlyDie};
+ghost use Rattle.rssd_core.specs.Within.{sector_reads};
+
+use crate::device::{Counts, FtlError};
+use crate::row::get_row;
+use block_state::Book;
+use cell_die::{Die, DieFault, PowerDie, Torn};
+use page_codec::Work;
+use sector_map::SectorMap;
+use std::marker::Model;
+use striped::Scheme;
+
+/// A mounted device.
+#[derive(Drop)]
+pub struct Ftl<D: Die + Drop, C: Scheme + Drop> {
+    die: D,
+    scheme: C,
+    work: Work,
+    map: SectorMap,
+    book: Book,
+    seq: u64,
+    reuse_max: u32,
+    counts: Counts,
+    stopped: bool,
+}
+
+impl<D: Die + Drop, C: Scheme + Drop> Model for Ftl<D, C> {
+    ghost use Rattle.rssd_core.specs.Parts.{Parts, device_of};
+    ghost use Rattle.rssd_core.specs.Kept.{IsKept};
+
+    ghost Value = { Parts D C };
+
+    ghost view = { λ f. record {
+      die = f.die;
+      scheme = f.scheme;
+      sizes = f.work;
+      table = f.map;
+      book = f.book;
+      seq = f.seq;
+      reuse_max = f.reuse_max;
+      counts = f.counts;
+      stopped = f.stopped;
+    } };
+
+    ghost invariant = { λ f. IsKept (device_of D.state C.meaning (record {
+      die = f.die;
+      scheme = f.scheme;
+      sizes = f.work;
+      table = f.map;
+      book = f.book;
+      seq = f.seq;
+      reuse_max = f.reuse_max;
+      counts = f.counts;
+      stopped = f.stopped;
+    })) f.work f.map };
+}
+
+impl<D: Die + Drop, C: Scheme + Drop> Ftl<D, C> {
+    /// The tallies since the mount.
+    pub fn counts(&self) -> Counts
+        ensures first { result.first ≡ (device_of D.state C.meaning self.now).view.first }
+        ensures second { result.second ≡ (device_of D.state C.meaning self.now).view.second }
+        ensures declined { result.declined ≡ (device_of D.state C.meaning self.now).view.declined }
+        ensures moved { result.moved ≡ (device_of D.state C.meaning self.now).view.moved }
+    {
+        self.counts
+    }
+
+    /// Whether a program, charge or erase failed under this value.
+    pub fn stopped(&self) -> bool
+        ensures { result ≡ (device_of D.state C.meaning self.now).stopped }
+    {
+        self.stopped
+    }
+
+    /// How many sectors there are.
+    pub fn sectors(&self) -> u32
+        ensures { result ≡ (device_of D.state C.meaning self.now).numbers.geometry.sectors }
+    {
+        self.map.sectors()
+    }
+
+    /// The bytes of a sector.
+    pub fn sector_bytes(&self) -> u32
+        ensures { result ≡ (device_of D.state C.meaning self.now).numbers.geometry.sector_bytes }
+    {
+        self.scheme.sector_bytes()
+    }
+
+    /// Gives the die and the scheme back.
+    pub fn close(self) -> (D, C)
+        ensures die { D.state result.0 ≡ (device_of D.state C.meaning self).view.die }
+        ensures scheme { C.meaning result.1 ≡ (device_of D.state C.meaning self).numbers.meaning }
+    {
+        (self.die, self.scheme)
+    }
+
+    /// Reads a sector into `sector_bytes` bytes. After a refusal `into` is as before.
+    pub fn read(&mut self, sector: u32, into: &mut [u8]) -> Result<(), FtlError>
+        requires { length into.old ≡ (device_of D.state C.meaning self.old).numbers.geometry.sector_bytes }
+        ensures holds { Holds (device_of D.state C.meaning self.old).numbers (device_of D.state C.meaning self.old) (device_of D.state C.meaning self.new) }
+        ensures bad_sector { result ≡ Err FtlError.BadSector ↔ (device_of D.state C.meaning self.old).numbers.geometry.sectors ≤ sector }
+        ensures stopped { result ≡ Err FtlError.Stopped ↔ (sector < (device_of D.state C.meaning self.old).numbers.geometry.sectors) × ((device_of D.state C.meaning self.old).stopped ≡ true) }
+        ensures never { OnErr result (result ≢ Err FtlError.Spent) }
+        ensures row { OnOk result (into.new ≡ slice_index_or (rows_of (device_of D.state C.meaning self.old).numbers (device_of D.state C.meaning self.old).view) sector []) }
+        ensures same_into { OnErr result (into.new ≡ into.old) }
+        ensures only_die { OnlyDie (device_of D.state C.meaning self.old) (device_of D.state C.meaning self.new) }
+        ensures calls { OnOk result (Passed 0 (sector_reads (device_of D.state C.meaning self.old).numbers (device_of D.state C.meaning self.old).view sector) (device_of D.state C.meaning self.old).view.die (device_of D.state C.meaning self.new).view.die) }
+        ensures fault { IsErrOf result FtlError.DieFault → ReadFailed 0 (sector_reads (device_of D.state C.meaning self.old).numbers (device_of D.state C.meaning self.old).view sector) (device_of D.state C.meaning self.old).view.die (device_of D.state C.meaning self.new).view.die }
+        ensures refused { OnErr result (result ≢ Err FtlError.DieFault → device_of D.state C.meaning self.new ≡ device_of D.state C.meaning self.old) }
+    {
+        if sector >= self.map.sectors() {
+            return Err(FtlError::BadSector);
+        }
+        if self.stopped {
+            return Err(FtlError::Stopped);
+        }
+        let entry = self.map.get(sector);
+        match get_row(&mut self.die, &self.scheme, &mut self.work, entry, into) {
+            Err(DieFault) => return Err(FtlError::DieFault),
+            Ok(()) => {}
+        }
+        Ok(())
+    }
+}
+
+impl<D: PowerDie + Drop, C: Scheme + Drop> Ftl<D, C> {
+    /// The `n`-th change call from now is cut in this form.
+    pub fn arm_cut(&mut self, n: u32, torn: Torn)
+        requires { 1 ≤ n }
+        ensures { device_of D.state C.meaning self.new ≡ with_die (told (with_cut n torn)) (device_of D.state C.meaning self.old) }
+    {
+        self.die.arm_cut(n, torn);
+    }
+
+    /// The `n`-th read from now fails.
+    pub fn fail_read(&mut self, n: u32)
+        requires { 1 ≤ n }
+        ensures { device_of D.state C.meaning self.new ≡ with_die (told (with_read_failure n)) (device_of D.state C.meaning self.old) }
+    {
+        self.die.fail_read(n);
+    }
+
+    /// The sum of the die's erase counts; it stands still at 2^64 - 1.
+    pub fn erased(&self) -> u64
+        ensures { result ≡ sum_of (device_of D.state C.meaning self.now).view.die.erases }
+    {
+        self.die.erased()
+    }
+
+    /// Whether the die has power.
+    pub fn powered(&self) -> bool
+        ensures { IfSome (device_of D.state C.meaning self.now).view.die.failures (λ failures. result ≡ failures.powered) }
+    {
+        self.die.powered()
+    }
+}
