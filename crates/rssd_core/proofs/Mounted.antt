@@ -1,6 +1,5 @@
 -- The tables of a scan are those of a mounted device: its numbers are the scheme's, as the buffers' are, and a read changes no cell.
-use Rattle.std.specs.Prelude.{IfOk, IfErr}
-use Rattle.std.proofs.Common.{◌≡◌, ◌≢◌, ℕ, ◌*◌, ◌-◌, ◌^◌, ◌<◌, ◌≤◌, Bool, true, false, List, length, Option, None, refl, sym, ap, ◌∙◌, subst, arith}
+use Rattle.std.proofs.Common.{◌≡◌, ℕ, ◌*◌, ◌-◌, ◌<◌, false, List, length, Option, None, refl, sym, ap, ◌∙◌, subst, arith}
 use Rattle.std.proofs.lemmas.List.{length-replicate}
 use Rattle.std.proofs.Math.Nat.{mul-le-mul}
 use Rattle.cell_die.specs.declared.shape.Shape.{Shape}
@@ -10,7 +9,7 @@ use Rattle.striped.specs.Meaning.{Meaning}
 use Rattle.sector_map.specs.declared.entry.Entry.{Entry}
 use Rattle.page_codec.specs.Geometry.{Geometry}
 use Rattle.page_codec.specs.Sizes.{Sizes, Serves, ServesScheme}
-use Rattle.page_codec.specs.TrueBook.{IsTrueBook, live_map}
+use Rattle.page_codec.specs.TrueBook.{IsTrueBook}
 use Rattle.mount_scan.specs.declared.scan.ScanRefusal.{ScanRefusal}
 use Rattle.mount_scan.specs.declared.scan.ScanRefusal.TheVariants.{DieFault, NoSpare}
 use Rattle.mount_scan.specs.declared.tables.Tables.{Tables}
@@ -20,9 +19,8 @@ use Rattle.mount_scan.specs.Scanned as scanned
 use Rattle.collector.specs.Store.{geometry_of}
 use Rattle.collector.proofs.Tables.{live_map_long}
 use Rattle.rssd_core.specs.declared.device.Plan.{Plan}
-use Rattle.rssd_core.specs.declared.device.Counts.{Counts}
 use Rattle.rssd_core.specs.Steps.{IsSized}
-use Rattle.rssd_core.specs.DeviceValue.{Numbers, DeviceValue}
+use Rattle.rssd_core.specs.DeviceValue.{DeviceValue}
 use Rattle.rssd_core.specs.Kept.{IsKept}
 use Rattle.rssd_core.specs.Mount.{numbers_of, Fits, Mounts, Refuses}
 use Rattle.rssd_core.specs.Mounting.{sizes_of, why_refused}
@@ -55,9 +53,6 @@ new_sectors shape sectors span generations tables fresh = ap length fresh.map �
 
 module _ (old new : DieState) (meaning : Meaning) (plan : Plan) (sizes : Sizes) (tables : Tables) (sectors : ℕ) (fits : Fits old.shape meaning plan) (work : sizes ≡ sizes_of meaning) (same : sectors ≡ plan.sectors)
     (reads : Reads (die_state.page_count old.shape) old new) (mounted : AreMounted (scanned.geometry_of old.shape sizes sectors) plan.reuse_max old.cells tables) where
-  abbrev d : Numbers
-  d = numbers_of old.shape meaning plan
-
   by_scheme : AreMounted (numbers_of old.shape meaning plan).geometry plan.reuse_max new.cells tables
   by_scheme =
       subst (λ (cells : List (List ℕ)). AreMounted (numbers_of old.shape meaning plan).geometry plan.reuse_max cells tables) (sym reads.same_cells.cells)

@@ -13,6 +13,14 @@ use page_codec::Work;
 use std::alloc::{AllocError, Global};
 use striped::Scheme;
 
+/// The tallies of a device that answered no write and moved no record yet.
+const NO_COUNTS: Counts = Counts {
+    first: 0,
+    second: 0,
+    declined: 0,
+    moved: 0,
+};
+
 /// All memory of a device: the buffers of puts and gets, and the tables.
 #[derive(Drop)]
 struct Room {
@@ -105,40 +113,30 @@ fn refusal(why: ScanRefusal) -> MountError
     }
 }
 
-/// Reads the die into the tables.
+/// Reads the die into the tables, which are then those of the device.
 fn mount_in<D: Die + Drop, C: Scheme + Drop>(
-    die: D,
+    mut die: D,
     scheme: C,
-    room: Room,
+    mut room: Room,
     plan: Plan,
 ) -> Result<Ftl<D, C>, Refused<D, C>>
     requires fits { Fits (D.state die).shape (C.meaning scheme) plan }
     requires room { HasRoom (D.state die).shape (C.meaning scheme) plan.sectors room }
     ensures mounted { IfOk result (λ new. Mounts (numbers_of (D.state die).shape (C.meaning scheme) plan) (D.state die) (device_of D.state C.meaning new)) }
-    ensures fits { IfErr result (λ refused. refused.why ≢ MountError.Shape) }
+    ensures not_shape { IfErr result (λ refused. refused.why ≢ MountError.Shape) }
     ensures refused { IfErr result (λ refused. Refuses (numbers_of (D.state die).shape (C.meaning scheme) plan) (D.state die) (D.state refused.die) refused.why) }
     ensures scheme { IfErr result (λ refused. C.meaning refused.scheme ≡ C.meaning scheme) }
 {
-    let mut die = die;
-    let Room {
-        mut work,
-        mut tables,
-    } = room;
-    match scan_all(&mut die, &mut work, &mut tables, plan.reuse_max) {
+    match scan_all(&mut die, &mut room.work, &mut room.tables, plan.reuse_max) {
         Ok(()) => Ok(Ftl {
             die,
             scheme,
-            work,
-            map: tables.map,
-            book: tables.book,
-            seq: tables.seq,
+            work: room.work,
+            map: room.tables.map,
+            book: room.tables.book,
+            seq: room.tables.seq,
             reuse_max: plan.reuse_max,
-            counts: Counts {
-                first: 0,
-                second: 0,
-                declined: 0,
-                moved: 0,
-            },
+            counts: NO_COUNTS,
             stopped: false,
         }),
         Err(why) => Err(Refused {

@@ -1,7 +1,6 @@
 -- The scan's tables are those of the device, and what a refused scan says is what a refused mount says.
-use Rattle.std.proofs.Common.{◌≡◌, ℕ, length, sym, subst}
+use Rattle.std.proofs.Common.{length, sym, subst}
 use Rattle.page_codec.specs.Sizes.{Sizes}
-use Rattle.rssd_core.specs.declared.device.MountError.{MountError}
 use Rattle.rssd_core.specs.Kept.{IsKept}
 use Rattle.rssd_core.specs.Mount.{numbers_of, Refuses}
 use Rattle.rssd_core.proofs.Mounted.{device_kept, device_mounts, fresh_device, mount_refuses, new_sectors}
