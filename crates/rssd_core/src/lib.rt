@@ -5,6 +5,7 @@ pub mod device;
 mod at_hand;
 mod ftl;
 mod over;
+pub mod mounting;
 mod page;
 mod row;
 pub mod whole;
