@@ -14,21 +14,9 @@ use Rattle.cell_die.proofs.Single.{block_rose_never_falls}
 use Rattle.spare_die.specs.Table.{home, HasHomes}
 use Rattle.spare_die.specs.Spare.{Own, spare_state, spare_place}
 use Rattle.spare_die.specs.SpareLaws.{place_block, place_past_table, page_of-spare, page_of-spare_past, logical_inside}
-use Rattle.spare_die.proofs.Calls.{OwnLater, kept_spare}
-
--- an erase of a logical block
-pub record Renews (inner new : DieState) (logical block : ℕ) : Type 0 where
-  pub shaped : IsShaped inner
-  pub homes : HasHomes inner logical
-  pub shape : new.shape ≡ inner.shape
-  pub inside : block < logical
-  pub others : (other : ℕ) → other ≢ block → home new other ≡ home inner other
-  pub pages : (page : ℕ) → inner.shape.pages ≤ page → page / inner.shape.pages ≢ home inner block → page_of new page ≡ page_of inner page
-
--- the erase counts but for this block's
-pub record CountsUp (block : ℕ) (old new : Own) : Type 0 where
-  pub here : slice_index new.erases block ≡ raised (slice_index old.erases block)
-  pub others : (other : ℕ) → other ≢ block → slice_index new.erases other ≡ slice_index old.erases other
+use Rattle.spare_die.specs.Tallies.{OwnLater, CountsUp}
+use Rattle.spare_die.specs.Entering.{Renews}
+use Rattle.spare_die.proofs.Calls.{kept_spare}
 
 -- the place of a page of another block stays
 place_of_other : {inner new : DieState} {logical block : ℕ} (page : ℕ) → Renews inner new logical block → page / inner.shape.pages ≢ block → spare_place new page ≡ spare_place inner page

@@ -2,6 +2,9 @@
 //! table, which is the inner block 0, says so. So far the crate has the entries of the table, and its definitions and laws.
 #![tactic(auto)]
 
+mod book;
 pub mod entry;
+mod spare;
+mod tally;
 #[cfg(test)]
 mod tests;
