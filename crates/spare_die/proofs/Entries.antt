@@ -11,6 +11,7 @@ use Rattle.cell_die.specs.Cells.{charge_at, charge, blank_page}
 use Rattle.cell_die.specs.DieState.{DieState, page_of}
 use Rattle.cell_die.proofs.CellLaws.{no_charge}
 use Rattle.spare_die.specs.Table.{home_up_to, is_gated, is_entry_for, logical_of, inner_of, entry_page}
+use Rattle.spare_die.specs.Entering.{IsEntry}
 use Rattle.spare_die.specs.SpareLaws.{home_up_to-same}
 
 -- a blank page is no entry
@@ -112,3 +113,11 @@ between_ungated old new target between none = ⊎_elim
       false≢true (sym none ∙ eq-eqb (charge_at target 64) 1 is)))
     (λ free. free)
     (cases_Bool (is_gated new))
+
+-- the page of an entry, with its gate charged
+pub entry_is : (page : List ℕ) (block named bytes : ℕ) → 9 ≤ bytes → block < 2 ^ 32 → named < 2 ^ 32 → page ≡ charge (entry_page block named bytes) 64 → IsEntry page block named
+entry_is page block named bytes room fits fits' is = record {
+  gated = ap is_gated is ∙ entry_gated block named bytes room;
+  logical = ap logical_of is ∙ entry_logical block named bytes room fits;
+  inner = ap inner_of is ∙ entry_inner block named bytes room fits';
+}

@@ -109,10 +109,11 @@ bad_counted {inner} {bad_erases} {logical} {book} {tally} {tally'} o running sam
 
 pub orderly_bad : {inner new : DieState} {bad_erases bad_erases' logical block at : ℕ} {book : Book} {tally tally' : Tally} → IsOrderly inner bad_erases logical book tally → HomeCall inner new logical block at
     → tally.stopped ≡ false → SameButErases tally tally' → new.change_faults ≡ inner.change_faults → Rose bad_erases bad_erases'
-    → IsOrderly new bad_erases' logical book (record tally' { bad = raised tally'.bad })
-orderly_bad {inner} {new} {bad_erases} {bad_erases'} {logical} {block} {at} {book} {tally} {tally'} o call running same faults rose =
-    let more : tally'.written < raised tally'.bad = bad_counted o running same in
-    let table : SameTable tally (record tally' { bad = raised tally'.bad }) = record {
+    → (bad : ℕ) → bad ≡ raised tally'.bad → IsOrderly new bad_erases' logical book (record tally' { bad = bad })
+orderly_bad {inner} {new} {bad_erases} {bad_erases'} {logical} {block} {at} {book} {tally} {tally'} o call running same faults rose bad is =
+    let strict : tally'.written < raised tally'.bad = bad_counted o running same in
+    let more : tally'.written < bad = omega arith in
+    let table : SameTable tally (record tally' { bad = bad }) = record {
       erases = same.blocks;
       read_faults = same.read_faults;
       change_faults = same.change_faults;

@@ -15,7 +15,7 @@ use Rattle.spare_die.specs.declared.book.Book.{Book}
 use Rattle.spare_die.specs.declared.tally.Tally.{Tally}
 use Rattle.spare_die.specs.Table.{home, home_up_to, HasHomes, is_named, is_named_up_to, is_used, is_gated, named_count, used_count, entry_page, logical_of, inner_of}
 use Rattle.spare_die.specs.Book.{IsOrderly, HasRows, IsOrderlyTable, IsBookOf, IsCounted, IsUsedUp}
-use Rattle.spare_die.specs.Entering.{IsLowest, ReplacesHome, IsBlankBlock}
+use Rattle.spare_die.specs.Entering.{IsEntry, IsLowest, ReplacesHome, IsBlankBlock}
 use Rattle.spare_die.proofs.Counting.{count_one_more}
 use Rattle.spare_die.proofs.Homes.{SameEntries, homes_ungated, named_after}
 use Rattle.spare_die.proofs.Entries.{MovesHome, homes_after, blank_not_gated, entry_gated, entry_logical, entry_inner}
@@ -110,19 +110,6 @@ homes_along {inner} {new} {logical} homes shape same = record {
   apart = λ block other below below' e. homes.apart block other below below' (sym (same block) ∙ (e ∙ same other));
 }
 
--- the page of the entry, with its gate charged
-pub record IsEntry (page : List ℕ) (block named : ℕ) : Type 0 where
-  pub gated : is_gated page ≡ true
-  pub logical : logical_of page ≡ block
-  pub inner : inner_of page ≡ named
-
-pub entry_is : (page : List ℕ) (block named bytes : ℕ) → 9 ≤ bytes → block < 2 ^ 32 → named < 2 ^ 32 → page ≡ charge (entry_page block named bytes) 64 → IsEntry page block named
-entry_is page block named bytes room fits fits' is = record {
-  gated = ap is_gated is ∙ entry_gated block named bytes room;
-  logical = ap logical_of is ∙ entry_logical block named bytes room fits;
-  inner = ap inner_of is ∙ entry_inner block named bytes room fits';
-}
-
 pub moves : {inner new : DieState} {logical block named at : ℕ} → EntryPlace inner logical named at → new.shape ≡ inner.shape → OnlyPage at inner new → IsEntry (page_of new at) block named
     → MovesHome inner new block named
 moves {inner} {new} {logical} {block} {named} {at} place shape only entry =
@@ -172,8 +159,8 @@ homes_moved {inner} {new} {logical} {block} {named} {at} place shape m = record 
 }
 
 -- the block that it moves to is blank
-pub moved_blank : {inner new : DieState} {logical block named at : ℕ} → EntryPlace inner logical named at → new.shape ≡ inner.shape → OnlyPage at inner new → home new block ≡ named → IsBlankBlock new (home new block)
-moved_blank {inner} {new} {logical} {block} {named} {at} place shape only is = λ page here.
+pub moved_blank : {inner new : DieState} {logical named at : ℕ} (block : ℕ) → EntryPlace inner logical named at → new.shape ≡ inner.shape → OnlyPage at inner new → home new block ≡ named → IsBlankBlock new (home new block)
+moved_blank {inner} {new} {logical} {named} {at} block place shape only is = λ page here.
     let here' : page / inner.shape.pages ≡ named = ap (λ (shape : Shape). page / shape.pages) (sym shape) ∙ (here ∙ is) in
     only.others page (λ same. absurd (omega (arith, table_block inner.shape.pages at place.shaped.some_pages place.at_inside, place.past, sym here' ∙ ap (λ p. p / inner.shape.pages) same)))
     ∙ (place.table.spares named page place.past place.inside place.free here' ∙ ap (λ (shape : Shape). blank_page (page_bytes shape)) (sym shape))
@@ -340,9 +327,18 @@ failed_others {inner} {new} {logical} {block} {named} {at} f other apart = ⊎_e
 pub failed_here : {inner new : DieState} {logical block named at : ℕ} → EntryFailed inner new logical block named at → (home new block ≡ home inner block) ⊎ IsBlankBlock new (home new block)
 failed_here {inner} {new} {logical} {block} {named} {at} f = ⊎_elim
     (λ ungated. inl (homes_before block f.place f.shape f.only ungated))
-    (λ entry. inr (moved_blank f.place f.shape f.only (moved f.place f.shape f.only entry).here))
+    (λ entry. inr (moved_blank block f.place f.shape f.only (moved f.place f.shape f.only entry).here))
     f.page
 
 -- only the table changed
 pub past_table : {inner new : DieState} {logical named at : ℕ} (page : ℕ) → EntryPlace inner logical named at → OnlyPage at inner new → inner.shape.pages ≤ page → page_of new page ≡ page_of inner page
 past_table {inner} {new} {logical} {named} {at} page place only past = only.others page (λ same. absurd (omega (arith, place.at_inside)))
+
+-- the page is one of the die's, and blank
+pub table_page : {inner : DieState} {logical named at : ℕ} → EntryPlace inner logical named at → at < page_count inner.shape
+table_page {inner} {logical} {named} {at} place =
+    (div-lt_iff_lt-mul {k = inner.shape.pages} {x = at} {y = inner.shape.blocks} place.shaped.some_pages).0
+    (omega (arith, table_block inner.shape.pages at place.shaped.some_pages place.at_inside, place.homes.room))
+
+pub blank_table_page : {inner : DieState} {logical named at : ℕ} → EntryPlace inner logical named at → page_of inner at ≡ blank_page (page_bytes inner.shape)
+blank_table_page {inner} {logical} {named} {at} place = blank_row (page_of inner at) place.blank ∙ ap blank_page (place.shaped.lengths at (table_page place))

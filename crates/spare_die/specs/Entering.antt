@@ -4,7 +4,7 @@ use Rattle.cell_die.specs.Cells.{IsAbove, blank_page}
 use Rattle.cell_die.specs.DieState.{DieState, IsShaped, page_of, page_bytes}
 use Rattle.cell_die.specs.Counts.{raised}
 use Rattle.cell_die.specs.Calls.{ChangeFailed}
-use Rattle.spare_die.specs.Table.{home, HasHomes}
+use Rattle.spare_die.specs.Table.{home, HasHomes, is_gated, logical_of, inner_of}
 use Rattle.spare_die.specs.Spare.{Own}
 use Rattle.spare_die.specs.Book.{IsUsedUp}
 
@@ -32,6 +32,12 @@ pub record ReplacesHome (inner new : DieState) (block : ℕ) : Type 0 where
   pub shape : new.shape ≡ inner.shape
   pub others : (other : ℕ) → other ≢ block → home new other ≡ home inner other
   pub pages : (page : ℕ) → inner.shape.pages ≤ page → page_of new page ≡ page_of inner page
+
+-- the page is an entry that names this inner block for this logical block
+pub record IsEntry (page : List ℕ) (block named : ℕ) : Type 0 where
+  pub gated : is_gated page ≡ true
+  pub logical : logical_of page ≡ block
+  pub inner : inner_of page ≡ named
 
 -- the lowest number that is not taken
 pub record IsLowest (taken : List Bool) (n : ℕ) : Type 0 where

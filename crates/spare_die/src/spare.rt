@@ -1,11 +1,12 @@
 //! The die: the pages of a logical block stand in its home, and an erase that goes bad moves it to a reserve block. An entry
 //! of the table moves a block with the charge of its gate, after all else of it is written.
 ghost use Rattle.std.specs.Prelude.{◌≡◌, ◌⊎◌, ◌<◌, ◌≤◌, false, length, OnOk, OnErr};
-ghost use Rattle.cell_die.specs.Cells.{IsAbove, charge};
-ghost use Rattle.cell_die.specs.DieState.{page_bytes, page_of};
+ghost use Rattle.cell_die.specs.Cells.{blank_page};
+ghost use Rattle.cell_die.specs.DieState.{page_bytes, page_count, page_of};
 ghost use Rattle.cell_die.specs.Changes.{OnlyPage};
 ghost use Rattle.cell_die.specs.Calls.{Kept, Passed, ChangeFailed};
 ghost use Rattle.spare_die.specs.Table.{is_gated};
+ghost use Rattle.spare_die.specs.Entering.{IsEntry};
 ghost use Rattle.spare_die.specs.Book.{IsOrderly, KeepsFacts};
 
 use crate::book::{Book, Place};
@@ -27,21 +28,23 @@ pub struct SpareDie<D: WornDie> {
     ghost whole_page: { length entry.items ≡ page_bytes (D.state inner).shape },
 }
 
-/// Programs a blank table page, and then charges its gate.
-fn put_entry<D: WornDie>(die: &mut D, at: u32, page: &[u8]) -> Result<(), DieFault>
-    requires inside { at < (D.state die.old).shape.pages }
+/// Writes an entry on a blank table page: first all but its gate, then the gate.
+fn put_entry<D: WornDie>(die: &mut D, at: u32, entry: Entry, page: &mut [u8]) -> Result<(), DieFault>
+    requires inside { at < page_count (D.state die.old).shape }
     requires room { 9 ≤ page_bytes (D.state die.old).shape }
-    requires some { 1 ≤ (D.state die.old).shape.blocks }
-    requires above { IsAbove page.now (page_of (D.state die.old) at) }
-    requires ungated { is_gated page.now ≡ false }
-    ensures put { OnOk result (page_of (D.state die.new) at ≡ charge page.now GATE) }
-    ensures put_or_not { OnErr result ((is_gated (page_of (D.state die.new) at) ≡ false) ⊎ (page_of (D.state die.new) at ≡ charge page.now GATE)) }
+    requires logical { entry.logical < 1024 }
+    requires inner { entry.inner < 1024 }
+    requires whole_page { length page.old ≡ page_bytes (D.state die.old).shape }
+    requires blank { page_of (D.state die.old) at ≡ blank_page (page_bytes (D.state die.old).shape) }
+    ensures put { OnOk result (IsEntry (page_of (D.state die.new) at) entry.logical entry.inner) }
+    ensures put_or_not { OnErr result ((is_gated (page_of (D.state die.new) at) ≡ false) ⊎ IsEntry (page_of (D.state die.new) at) entry.logical entry.inner) }
     ensures only_page { OnlyPage at (D.state die.old) (D.state die.new) }
     ensures kept { Kept (D.state die.old) (D.state die.new) }
     ensures passed { OnOk result (Passed 2 0 (D.state die.old) (D.state die.new)) }
     ensures failed { OnErr result (ChangeFailed 2 0 (D.state die.old) (D.state die.new)) }
     ensures same_bad { D.bad_erases die.new ≡ D.bad_erases die.old }
 {
+    spell(entry, page);
     die.program(at, page)?;
     die.charge(at, GATE)
 }
@@ -161,8 +164,7 @@ impl<D: WornDie> SpareDie<D> {
             logical: block,
             inner: place.inner,
         };
-        spell(entry, &mut self.entry);
-        if let Err(fault) = put_entry(&mut self.inner, place.page, &self.entry) {
+        if let Err(fault) = put_entry(&mut self.inner, place.page, entry, &mut self.entry) {
             self.tally.stopped = true;
             return Err(fault);
         }
