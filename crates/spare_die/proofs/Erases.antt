@@ -73,6 +73,6 @@ in_part_spare {inner} {new} {logical} {block} own own' renews counts below_old =
 }
 
 pub kept_erase : {inner new : DieState} {logical block : ℕ} (own own' : Own) → Renews inner new logical block → CountsUp block own own' → OwnLater own own' → Kept inner new
-    → slice_index own.erases block ≤ slice_index own'.erases block → Kept (spare_state inner logical own) (spare_state new logical own')
-kept_erase {inner} {new} {logical} {block} own own' renews counts later kept higher =
-    kept_spare own own' kept later (block_rose_never_falls block (only_block_spare own own' renews counts) (omega (arith, counts.here)) higher)
+    → Kept (spare_state inner logical own) (spare_state new logical own')
+kept_erase {inner} {new} {logical} {block} own own' renews counts later kept =
+    kept_spare own own' kept later (block_rose_never_falls block (only_block_spare own own' renews counts) (omega (arith, counts.here)) counts.higher)

@@ -7,3 +7,4 @@ pub mod Facts
 pub mod Pages
 pub mod Erasing
 pub mod Written
+pub mod Moves

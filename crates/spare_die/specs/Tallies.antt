@@ -21,9 +21,10 @@ pub record OwnLater (old new : Own) : Type 0 where
   pub read_faults : old.read_faults ≤ new.read_faults
   pub change_faults : old.change_faults ≤ new.change_faults
 
--- the erase counts but for this block's
+-- this block's erase count is one higher, and the others are as they were
 pub record CountsUp (block : ℕ) (old new : Own) : Type 0 where
   pub here : slice_index new.erases block ≡ raised (slice_index old.erases block)
+  pub higher : slice_index old.erases block ≤ slice_index new.erases block
   pub others : (other : ℕ) → other ≢ block → slice_index new.erases other ≡ slice_index old.erases other
 
 -- nothing but erase counts changes
