@@ -1,5 +1,5 @@
 -- How many numbers of a range pass a test, when the test changes.
-use Rattle.std.proofs.Common.{◌≡◌, ◌≢◌, ℕ, zero, suc, ◌+◌, ◌<◌, ◌≤◌, Bool, true, false, cond, List, [], ◌∷◌, refl, ap, ap₂, sym, ◌∙◌, arith, ⊎_elim}
+use Rattle.std.proofs.Common.{◌≡◌, ◌≢◌, ℕ, zero, suc, ◌+◌, ◌<◌, ◌≤◌, Bool, true, false, cond, List, [], ◌∷◌, length, get_or, add-zero, refl, ap, ap₂, sym, ◌∙◌, arith, ⊎_elim}
 use Rattle.std.specs.List.{range_with_len, count_by}
 use Rattle.std.proofs.lemmas.Bool.{cases_eq}
 use Rattle.std.proofs.lemmas.List.Sums.{sum_by-cons}
@@ -44,3 +44,14 @@ count_one_more p q a (suc n) one from to before after same = ⊎_elim
     later : q a ≡ p a → count_by q (range_with_len (a + 1) n) ≡ count_by p (range_with_len (a + 1) n) + 1
         → count_by q (a ∷ range_with_len (a + 1) n) ≡ count_by p (a ∷ range_with_len (a + 1) n) + 1
     later same rest = more (cond (p a) 1 0) (cond (p a) 1 0) _ (count_by p (range_with_len (a + 1) n)) (omega arith) rest refl (ap (λ b. cond b 1 0) same) refl
+
+-- the flags that are set, where the flags tell the test
+pub count_flags : (f : ℕ → Bool) (xs : List Bool) (a : ℕ) → ((k : ℕ) → k < length xs → get_or xs k true ≡ f (a + k)) → count_by (λ (b : Bool). b) xs ≡ count_by f (range_with_len a (length xs))
+count_flags f [] a same = refl
+count_flags f (x ∷ xs) a same =
+    flag_cons x xs
+    ∙ (ap₂ (λ (b : Bool) (rest : ℕ). cond b 1 0 + rest) (same 0 (omega arith) ∙ ap f (add-zero a)) (count_flags f xs (a + 1) (λ k below. same (suc k) (omega arith) ∙ ap f (omega arith)))
+    ∙ sym (count_cons f a (range_with_len (a + 1) (length xs))))
+  where
+    flag_cons : (x : Bool) (xs : List Bool) → count_by (λ (b : Bool). b) (x ∷ xs) ≡ cond x 1 0 + count_by (λ (b : Bool). b) xs
+    flag_cons x xs = sum_by-cons (λ (b : Bool). cond b 1 0) x xs

@@ -8,3 +8,5 @@ pub mod Pages
 pub mod Erasing
 pub mod Written
 pub mod Moves
+pub mod Telling
+pub mod Opens

@@ -4,3 +4,4 @@ pub mod SpareLaws
 pub mod Book
 pub mod Tallies
 pub mod Entering
+pub mod Opening

@@ -38,6 +38,13 @@ fn lowest(taken: &[bool]) -> Option<u32>
 }
 
 impl Book {
+    /// Whether an inner block is no free reserve block.
+    pub fn is_taken(&self, inner: u32) -> bool
+        ensures { result ≡ slice_index_or self.now.taken.items inner true }
+    {
+        self.taken.get(inner as usize).copied().unwrap_or(true)
+    }
+
     /// The lowest free reserve block and the lowest blank table page, where both are left.
     pub fn next_place(&self) -> Option<Place>
         requires few_blocks { length self.now.taken.items < 2 ^ 32 }

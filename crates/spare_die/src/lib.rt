@@ -5,6 +5,7 @@
 mod book;
 pub mod entry;
 mod spare;
+mod opening;
 mod tally;
 #[cfg(test)]
 mod tests;
