@@ -128,4 +128,4 @@ orderly_bad {inner} {new} {bad_erases} {bad_erases'} {logical} {block} {at} {boo
 pub orderly_erase_failed : {inner new : DieState} {bad_erases bad_erases' logical block at : ℕ} {book : Book} {tally tally' : Tally} → IsOrderly inner bad_erases logical book tally → HomeCall inner new logical block at
     → SameButErases tally tally' → ChangeFailed 1 0 inner new → bad_erases' ≡ bad_erases → IsOrderly new bad_erases' logical book (record tally' { stopped = true })
 orderly_erase_failed {inner} {new} {bad_erases} {bad_erases'} {logical} {block} {at} {book} {tally} {tally'} o call same failed bad =
-    orderly_stopped o (homes_stay (home_leaves call)) call.kept.shape failed.change_faults same.blocks refl (omega (arith, o.written, same.written, same.bad)) (omega (arith, o.bad, same.bad))
+    orderly_stopped o (homes_stay (home_leaves call)) call.kept.shape failed.change_faults same.blocks refl (omega (arith, o.written, same.written, same.bad)) (omega (arith, o.bad, same.bad)) (omega (arith, same.named_at_opening, same.written))

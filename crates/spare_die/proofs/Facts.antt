@@ -2,13 +2,15 @@
 use Rattle.std.proofs.Common.{◌≡◌, ◌≢◌, ◌⊎◌, inl, inr, ℕ, zero, suc, ◌+◌, ◌-◌, ◌*◌, ◌/◌, ◌<◌, ◌≤◌, Bool, true, false, not, List, length, refl, ap, ap₂, sym, ◌∙◌, arith, ◌||◌, nat_le, ⊎_elim}
 use Rattle.std.specs.List.{range_with_len, count_by}
 use Rattle.std.proofs.lemmas.Bool.{cases_Bool, cases_lt, false≢true}
+use Rattle.std.proofs.lemmas.List.Sums.{count_by-le-length}
+use Rattle.std.proofs.lemmas.List.FromFn.{length-range_with_len}
 use Rattle.cell_die.specs.declared.shape.Shape.{Shape}
 use Rattle.cell_die.specs.Cells.{is_blank, blank_page}
 use Rattle.cell_die.specs.Counts.{Rose, raised}
 use Rattle.cell_die.specs.DieState.{DieState, IsShaped, page_of, page_bytes}
 use Rattle.spare_die.specs.declared.book.Book.{Book}
 use Rattle.spare_die.specs.declared.tally.Tally.{Tally}
-use Rattle.spare_die.specs.Table.{home, HasHomes, is_named, is_named_up_to, is_used, is_gated, named_count, used_count}
+use Rattle.spare_die.specs.Table.{home, HasHomes, is_named, is_named_up_to, is_used, is_gated, named_count, used_count, reserve_count}
 use Rattle.spare_die.specs.SpareLaws.{home-same}
 use Rattle.spare_die.specs.Book.{IsOrderly, KeepsFacts, HasRows, IsOrderlyTable, IsBookOf, IsCounted, IsUsedUp}
 use Rattle.spare_die.proofs.Homes.{names_ungated, home_named}
@@ -40,6 +42,7 @@ orderly_refused_read {inner} {bad_erases} {logical} {book} {tally} o stopped = r
   erases = o.erases;
   bad = o.bad;
   written = o.written;
+  room = o.room;
   table = o.table;
   true_book = o.true_book;
   counted = λ sound. record { named = (o.counted sound).named; used = (o.counted sound).used };
@@ -59,6 +62,7 @@ orderly_refused_change {inner} {bad_erases} {logical} {book} {tally} o stopped =
   erases = o.erases;
   bad = o.bad;
   written = o.written;
+  room = o.room;
   table = λ sound. o.table (λ e. sound refl);
   true_book = λ sound. o.true_book (λ e. sound refl);
   counted = λ sound. let counted : IsCounted inner logical tally = o.counted (λ e. sound refl) in record { named = counted.named; used = counted.used };
@@ -121,6 +125,7 @@ orderly_leaves {inner} {new} {bad_erases} {bad_erases'} {logical} {book} {tally}
   erases = same.erases ∙ o.erases;
   bad = counted;
   written = written;
+  room = rw leaves.shape (omega (arith, o.room, same.written, same.named_at_opening));
   table = λ sound. let t : IsOrderlyTable inner logical = o.table (before sound) in record {
     spares = λ block page past inside free here.
         let inside' : block < inner.shape.blocks = rw leaves.shape at inside in
@@ -152,13 +157,14 @@ orderly_leaves {inner} {new} {bad_erases} {bad_erases'} {logical} {book} {tally}
 -- a change call of the inner die that fails stops the die
 pub orderly_stopped : {inner new : DieState} {bad_erases bad_erases' logical : ℕ} {book : Book} {tally tally' : Tally} → IsOrderly inner bad_erases logical book tally → HasHomes new logical
     → new.shape ≡ inner.shape → Rose inner.change_faults new.change_faults → length tally'.erases.items ≡ length tally.erases.items → tally'.stopped ≡ true
-    → tally'.written ≤ tally'.bad → tally'.bad ≤ bad_erases' → IsOrderly new bad_erases' logical book tally'
-orderly_stopped {inner} {new} {bad_erases} {bad_erases'} {logical} {book} {tally} {tally'} o homes shape rose erases stopped written counted = record {
+    → tally'.written ≤ tally'.bad → tally'.bad ≤ bad_erases' → tally'.named_at_opening + tally'.written ≤ tally.named_at_opening + tally.written → IsOrderly new bad_erases' logical book tally'
+orderly_stopped {inner} {new} {bad_erases} {bad_erases'} {logical} {book} {tally} {tally'} o homes shape rose erases stopped written counted room = record {
   homes = homes;
   rows = rows_same shape o.rows;
   erases = erases ∙ o.erases;
   bad = counted;
   written = written;
+  room = rw shape (omega (arith, o.room, room));
   table = λ sound. absurd (omega (arith, sound stopped));
   true_book = λ sound. absurd (omega (arith, sound stopped));
   counted = λ sound. absurd (omega (arith, sound stopped));
@@ -179,6 +185,7 @@ orderly_given_up {inner} {bad_erases} {logical} {book} {tally} o running used_up
   erases = o.erases;
   bad = o.bad;
   written = o.written;
+  room = o.room;
   table = λ sound. o.table before;
   true_book = λ sound. o.true_book before;
   counted = λ sound. let counted : IsCounted inner logical tally = o.counted before in record { named = counted.named; used = counted.used };
@@ -197,3 +204,8 @@ place_not_free inner logical block other below past free same = ⊎_elim
     (λ own. absurd (omega (arith, sym same ∙ own)))
     (λ named. absurd (false≢true (sym free ∙ (ap (is_named inner) (sym same) ∙ named))))
     (home_named inner other inner.shape.pages)
+
+-- not more names than reserve blocks
+pub room_counted : {inner : DieState} {logical : ℕ} {tally : Tally} → IsCounted inner logical tally → tally.named_at_opening + tally.written ≤ reserve_count inner logical
+room_counted {inner} {logical} {tally} counted =
+    omega (arith, counted.named, count_by-le-length (is_named inner) (range_with_len (1 + logical) (inner.shape.blocks - (1 + logical))), length-range_with_len (1 + logical) (inner.shape.blocks - (1 + logical)))

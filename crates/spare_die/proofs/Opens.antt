@@ -1,5 +1,5 @@
 -- What a die knows that was opened.
-use Rattle.std.proofs.Common.{◌≡◌, ℕ, zero, ◌+◌, ◌-◌, ◌<◌, ◌≤◌, Bool, true, false, List, length, drop, refl, ap, ap₂, sym, ◌∙◌, arith, get_or, ◌||◌, replicate}
+use Rattle.std.proofs.Common.{◌≡◌, ℕ, zero, ◌+◌, ◌-◌, ◌<◌, ◌≤◌, Bool, true, false, List, length, drop, refl, ap, ap₂, sym, subst, ◌∙◌, arith, get_or, ◌||◌, replicate}
 use Rattle.std.specs.Prelude.{nat_le, slice_index_or}
 use Rattle.std.specs.List.{range_with_len, count_by}
 use Rattle.std.proofs.lemmas.Bool.{false≢true, lt-leb}
@@ -11,11 +11,11 @@ use Rattle.spare_die.specs.declared.tally.Tally.{Tally}
 use Rattle.spare_die.specs.declared.opening.Opening.{Opening}
 use Rattle.spare_die.specs.Table.{home_up_to, is_named, is_named_up_to, is_used, named_count, used_count}
 use Rattle.spare_die.specs.Book.{IsOrderly, IsBookOf, IsOrderlyTable, IsCounted, HasRows}
-use Rattle.spare_die.specs.Opening.{FitsShape, SoundUpTo, SparesUpTo, IsSoundTable, IsFresh, IsFreshTally, OnlyReads, Told}
+use Rattle.spare_die.specs.Opening.{FitsShape, SoundUpTo, SparesUpTo, IsSoundTable, IsFresh, IsFreshTally, StartsAt, OnlyReads, Told}
 use Rattle.spare_die.proofs.Counting.{count_flags}
-use Rattle.spare_die.proofs.Facts.{LeavesFree, orderly_leaves}
-use Rattle.spare_die.proofs.Pages.{same_tally, orderly_passed}
-use Rattle.spare_die.proofs.Telling.{homes_of_sound, page_same, inside_read}
+use Rattle.spare_die.proofs.Facts.{LeavesFree, room_counted}
+use Rattle.spare_die.proofs.Pages.{orderly_passed}
+use Rattle.spare_die.proofs.Telling.{homes_of_sound, page_same, inside_read, told_read}
 
 -- before the first page
 pub told_none : (inner : DieState) (logical : ℕ) (opening : Opening) → IsFresh inner.shape logical opening → Told inner logical 0 opening
@@ -79,6 +79,7 @@ orderly_told {inner} {logical} {opening} {tally} bad_erases told spares fits fre
   erases = ap length erases ∙ length-replicate logical 0;
   bad = omega (arith, fresh.bad);
   written = omega (arith, fresh.written);
+  room = room_counted (counted_told told fits fresh);
   table = λ sound. record { spares = λ block page past inside free here. spares block past inside free page here; order = told.sound.order };
   true_book = λ sound. book_told told;
   counted = λ sound. counted_told told fits fresh;
@@ -100,3 +101,22 @@ orderly_opened {inner} {new} {bad_erases} {bad_erases'} {logical} {book} {tally}
       spares = λ block page past inside free here. page_same page (inside_read reads);
     } in
     orderly_passed o leaves reads.change_faults bad
+
+-- the whole table is told after reads too
+pub told_whole : {inner new : DieState} {logical : ℕ} {opening : Opening} → OnlyReads inner new → Told inner logical inner.shape.pages opening → Told new logical new.shape.pages opening
+told_whole {inner} {new} {logical} {opening} reads told =
+    subst (λ (n : ℕ). Told new logical n opening) (ap (λ (shape : Shape). shape.pages) (sym reads.shape)) (told_read (inside_read reads) told)
+
+-- the counts begin at the numbers of the table
+pub starts : {inner : DieState} {bad_erases logical : ℕ} {book counts : Book} {tally : Tally} → IsOrderly inner bad_erases logical book tally → IsFreshTally counts logical tally → tally.erases.items ≡ replicate logical 0 → StartsAt inner logical tally
+starts {inner} {bad_erases} {logical} {book} {counts} {tally} o fresh erases =
+    let counted : IsCounted inner logical tally = o.counted (λ stopped. absurd (false≢true (sym fresh.stopped ∙ stopped))) in record {
+      erases = erases;
+      read_faults = fresh.read_faults;
+      change_faults = fresh.change_faults;
+      bad = fresh.bad;
+      written = fresh.written;
+      stopped = fresh.stopped;
+      named = omega (arith, counted.named, fresh.written);
+      pages = omega (arith, counted.used, fresh.written);
+    }

@@ -86,7 +86,7 @@ orderly_passed {inner} {new} {bad_erases} {bad_erases'} {logical} {book} {tally}
 pub orderly_failed : {inner new : DieState} {bad_erases bad_erases' logical page place : ℕ} {book : Book} {tally : Tally} → IsOrderly inner bad_erases logical book tally → PageCall inner new logical page place
     → ChangeFailed 1 0 inner new → bad_erases' ≡ bad_erases → IsOrderly new bad_erases' logical book (record tally { stopped = true })
 orderly_failed {inner} {new} {bad_erases} {bad_erases'} {logical} {page} {place} {book} {tally} o call failed bad =
-    orderly_stopped o (homes_stay (page_leaves call)) call.kept.shape failed.change_faults refl refl o.written (omega (arith, o.bad))
+    orderly_stopped o (homes_stay (page_leaves call)) call.kept.shape failed.change_faults refl refl o.written (omega (arith, o.bad)) (omega arith)
 
 -- a read
 pub read_leaves : {inner new : DieState} {logical : ℕ} → IsShaped inner → HasHomes inner logical → Kept inner new → SameCells inner new → LeavesTable inner new logical

@@ -19,7 +19,7 @@ use Rattle.spare_die.specs.Entering.{IsEntry, IsLowest, ReplacesHome, IsBlankBlo
 use Rattle.spare_die.proofs.Counting.{count_one_more}
 use Rattle.spare_die.proofs.Homes.{SameEntries, homes_ungated, named_after}
 use Rattle.spare_die.proofs.Entries.{MovesHome, homes_after, blank_not_gated, entry_gated, entry_logical, entry_inner}
-use Rattle.spare_die.proofs.Facts.{place_not_free, orderly_stopped}
+use Rattle.spare_die.proofs.Facts.{place_not_free, room_counted}
 use Rattle.spare_die.proofs.Erasing.{table_block}
 
 -- a blank row
@@ -293,6 +293,7 @@ orderly_written {inner} {new} {bad_erases} {bad_erases'} {logical} {block} {name
   erases = counts.erases ∙ o.erases;
   bad = omega (arith, o.bad, counts.bad);
   written = omega (arith, counts.written, counts.bad);
+  room = room_counted (counted_written w (o.counted before) counts);
   table = λ sound. table_written w;
   true_book = λ sound. book_written w o.rows (o.true_book before) noted;
   counted = λ sound. counted_written w (o.counted before) counts;

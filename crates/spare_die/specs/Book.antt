@@ -5,7 +5,7 @@ use Rattle.cell_die.specs.Cells.{is_blank, blank_page}
 use Rattle.cell_die.specs.DieState.{DieState, page_of, page_bytes}
 use Rattle.spare_die.specs.declared.book.Book.{Book}
 use Rattle.spare_die.specs.declared.tally.Tally.{Tally}
-use Rattle.spare_die.specs.Table.{HasHomes, home, is_named, is_used, is_gated, named_count, used_count}
+use Rattle.spare_die.specs.Table.{HasHomes, home, is_named, is_used, is_gated, named_count, used_count, reserve_count}
 
 -- the book has a row for each logical block, each inner block and each table page
 pub record HasRows (inner : DieState) (logical : ℕ) (book : Book) : Type 0 where
@@ -57,6 +57,8 @@ pub record IsOrderly (inner : DieState) (bad_erases : ℕ) (logical : ℕ) (book
   pub erases : length tally.erases.items ≡ logical
   pub bad : tally.bad ≤ bad_erases
   pub written : tally.written ≤ tally.bad
+  -- not more reserve blocks were named than there are
+  pub room : tally.named_at_opening + tally.written ≤ reserve_count inner logical
   pub table : (tally.stopped ≡ true → inner.change_faults ≡ 0) → IsOrderlyTable inner logical
   pub true_book : (tally.stopped ≡ true → inner.change_faults ≡ 0) → IsBookOf inner logical book
   pub counted : (tally.stopped ≡ true → inner.change_faults ≡ 0) → IsCounted inner logical tally

@@ -1,5 +1,5 @@
 -- When a die can be opened, and what its table tells so far.
-use Rattle.std.specs.Prelude.{◌≡◌, ◌≢◌, ℕ, ◌+◌, ◌<◌, ◌≤◌, ◌||◌, Bool, true, false, not, min, List, length, drop, count_by, nat_le, slice_index, slice_index_or, slice_set, if◌then◌else◌, ⊤}
+use Rattle.std.specs.Prelude.{◌≡◌, ◌≢◌, ℕ, ◌+◌, ◌<◌, ◌≤◌, ◌||◌, Bool, true, false, not, min, List, length, drop, count_by, replicate, nat_le, slice_index, slice_index_or, slice_set, if◌then◌else◌, ⊤}
 use Rattle.cell_die.specs.declared.shape.Shape.{Shape}
 use Rattle.cell_die.specs.Cells.{is_blank}
 use Rattle.cell_die.specs.Counts.{Rose}
@@ -9,7 +9,7 @@ use Rattle.spare_die.specs.declared.tally.Tally.{Tally}
 use Rattle.spare_die.specs.declared.opening.Opening.{Opening}
 use Rattle.spare_die.specs.declared.opening.OpenError.{OpenError}
 use Rattle.spare_die.specs.declared.opening.OpenError.TheVariants.{OutOfMemory, Shape as WrongShape, DieFault, Table}
-use Rattle.spare_die.specs.Table.{home_up_to, is_named, is_named_up_to, is_used, is_gated, logical_of, inner_of}
+use Rattle.spare_die.specs.Table.{home_up_to, is_named, is_named_up_to, is_used, is_gated, logical_of, inner_of, named_count, used_count}
 use Rattle.spare_die.specs.Entering.{IsBlankBlock}
 use Rattle.spare_die.specs.Book.{HasRows}
 
@@ -65,6 +65,17 @@ pub record IsFreshTally (book : Book) (logical : ℕ) (tally : Tally) : Type 0 w
   -- the numbers of reserve blocks that are taken and of table pages that are used
   pub named : tally.named_at_opening ≡ count_by (λ (flag : Bool). flag) (drop (logical + 1) book.taken.items)
   pub pages : tally.pages_at_opening ≡ count_by (λ (flag : Bool). flag) book.used.items
+
+-- the counts of a die begin: nothing is counted yet, and the table has these numbers
+pub record StartsAt (inner : DieState) (logical : ℕ) (tally : Tally) : Type 0 where
+  pub erases : tally.erases.items ≡ replicate logical 0
+  pub read_faults : tally.read_faults ≡ 0
+  pub change_faults : tally.change_faults ≡ 0
+  pub bad : tally.bad ≡ 0
+  pub written : tally.written ≡ 0
+  pub stopped : tally.stopped ≡ false
+  pub named : tally.named_at_opening ≡ named_count inner logical
+  pub pages : tally.pages_at_opening ≡ used_count inner
 
 -- nothing was done but reads
 pub record OnlyReads (old new : DieState) : Type 0 where

@@ -51,6 +51,10 @@ is_named inner block = is_named_up_to inner block inner.shape.pages
 abbrev pub is_used : DieState → ℕ → Bool
 is_used inner page = not (is_blank (page_of inner page))
 
+-- how many reserve blocks there are
+abbrev pub reserve_count : DieState → ℕ → ℕ
+reserve_count inner logical = inner.shape.blocks - (1 + logical)
+
 -- how many reserve blocks entries name
 abbrev pub named_count : DieState → ℕ → ℕ
 named_count inner logical = count_by (is_named inner) (range_with_len (1 + logical) (inner.shape.blocks - (1 + logical)))

@@ -1,5 +1,5 @@
 //! A die that replaces bad blocks: where an erase goes bad, a reserve block stands in for the block from then on, and the
-//! table, which is the inner block 0, says so. So far the crate has the entries of the table, and its definitions and laws.
+//! table, which is the inner block 0, says so. Knows no page's meaning.
 #![tactic(auto)]
 
 mod book;
@@ -9,3 +9,6 @@ mod opening;
 mod tally;
 #[cfg(test)]
 mod tests;
+
+pub use opening::OpenError;
+pub use spare::{OpenRefused, SpareDie, open};

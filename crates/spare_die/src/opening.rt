@@ -6,7 +6,7 @@ ghost use Rattle.spare_die.specs.Book.{HasRows, IsBookOf, IsOrderly};
 ghost use Rattle.spare_die.specs.declared.opening.OpenError.TheVariants.{OutOfMemory};
 ghost use Rattle.cell_die.specs.Counts.{Rose};
 ghost use Rattle.spare_die.specs.Entering.{IsBlankBlock};
-ghost use Rattle.spare_die.specs.Opening.{FitsShape, IsSoundTable, OpenCause, OnlyReads, NotesPage, IsWrongEntry, Told, SparesUpTo, IsFresh, IsFreshTally};
+ghost use Rattle.spare_die.specs.Opening.{FitsShape, IsSoundTable, OpenCause, OnlyReads, NotesPage, IsWrongEntry, Told, SparesUpTo, IsFresh, IsFreshTally, StartsAt};
 
 use crate::book::Book;
 use crate::entry::{Entry, read};
@@ -276,8 +276,7 @@ pub fn read_die<D: WornDie>(alloc: Global, die: &mut D, logical: u32) -> Result<
     ensures fits { OnOk result (FitsShape (D.state die.old).shape logical) }
     ensures sound { OnOk result (IsSoundTable (D.state die.old) logical) }
     ensures orderly { IfOk result (λ opened. IsOrderly (D.state die.new) (D.bad_erases die.new) logical opened.book opened.tally) }
-    ensures fresh { IfOk result (λ opened. IsFreshTally opened.book logical opened.tally) }
-    ensures erases { IfOk result (λ opened. opened.tally.erases.items ≡ replicate logical 0) }
+    ensures starts { IfOk result (λ opened. StartsAt (D.state die.new) logical opened.tally) }
     ensures whole_page { IfOk result (λ opened. length opened.entry.items ≡ page_bytes (D.state die.new).shape) }
     ensures cause { IfErr result (λ why. OpenCause why (D.state die.old) (D.state die.new) logical) }
     ensures only_reads { OnlyReads (D.state die.old) (D.state die.new) }

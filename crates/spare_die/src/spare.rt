@@ -1,18 +1,21 @@
 //! The die: the pages of a logical block stand in its home, and an erase that goes bad moves it to a reserve block. An entry
 //! of the table moves a block with the charge of its gate, after all else of it is written.
-ghost use Rattle.std.specs.Prelude.{◌≡◌, ◌⊎◌, ◌<◌, ◌≤◌, false, length, OnOk, OnErr};
+ghost use Rattle.std.specs.Prelude.{◌≡◌, ◌⊎◌, ◌<◌, ◌≤◌, false, length, OnOk, OnErr, IfOk, IfErr};
 ghost use Rattle.cell_die.specs.Cells.{blank_page};
 ghost use Rattle.cell_die.specs.DieState.{page_bytes, page_count, page_of};
 ghost use Rattle.cell_die.specs.Changes.{OnlyPage};
 ghost use Rattle.cell_die.specs.Calls.{Kept, Passed, ChangeFailed};
 ghost use Rattle.spare_die.specs.Table.{is_gated};
 ghost use Rattle.spare_die.specs.Entering.{IsEntry};
+ghost use Rattle.spare_die.specs.Opening.{FitsShape, IsSoundTable, OnlyReads, StartsAt, OpenCause};
 ghost use Rattle.spare_die.specs.Book.{IsOrderly, KeepsFacts};
 
 use crate::book::{Book, Place};
 use crate::entry::{Entry, GATE, spell};
+use crate::opening::{OpenError, Opened, read_die};
 use crate::tally::Tally;
 use cell_die::{Die, DieFault, Erased, Shape, WornDie};
+use std::alloc::Global;
 
 /// A die over one some of whose erases go bad. From its first failed change call on each call fails, until it is opened again.
 #[derive(Drop)]
@@ -49,12 +52,44 @@ fn put_entry<D: WornDie>(die: &mut D, at: u32, entry: Entry, page: &mut [u8]) ->
     die.charge(at, GATE)
 }
 
+/// The inner die, given back, and why it was refused.
+#[derive(Drop)]
+pub struct OpenRefused<D> {
+    pub die: D,
+    pub why: OpenError,
+}
+
+/// Opens a die with so many logical blocks. Refused by the first that applies: `Shape` exactly where the die has no room for
+/// them, `OutOfMemory`, `DieFault` only where a read failed in this call, `Table` exactly where the table is not sound.
+/// It makes no change call.
+pub fn open<D: WornDie>(alloc: Global, die: D, logical: u32) -> Result<SpareDie<D>, OpenRefused<D>>
+    ensures fits { OnOk result (FitsShape (D.state die).shape logical) }
+    ensures sound { OnOk result (IsSoundTable (D.state die) logical) }
+    ensures reads { IfOk result (λ spare. OnlyReads (D.state die) (D.state spare.inner)) }
+    ensures logical { IfOk result (λ spare. spare.logical ≡ logical) }
+    ensures starts { IfOk result (λ spare. StartsAt (D.state spare.inner) logical spare.tally) }
+    ensures cause { IfErr result (λ refused. OpenCause refused.why (D.state die) (D.state refused.die) logical) }
+    ensures reads_back { IfErr result (λ refused. OnlyReads (D.state die) (D.state refused.die)) }
+{
+    let mut die = die;
+    match read_die(alloc, &mut die, logical) {
+        Ok(Opened { book, tally, entry }) => Ok(SpareDie {
+            inner: die,
+            logical,
+            book,
+            tally,
+            entry,
+        }),
+        Err(why) => Err(OpenRefused { die, why }),
+    }
+}
+
 impl<D: WornDie> SpareDie<D> {
-    ghost use Rattle.std.specs.Prelude.{◌≡◌, ◌*◌, ◌<◌, false};
+    ghost use Rattle.std.specs.Prelude.{◌≡◌, ◌*◌, ◌+◌, ◌<◌, ◌-◌, false};
     ghost use Rattle.std.specs.Prelude.{◌⊎◌, true, Ok, OnOk, OnErr, is_err};
     ghost use Rattle.cell_die.specs.Counts.{Rose};
     ghost use Rattle.cell_die.specs.Calls.{Kept, Passed, ChangeFailed};
-    ghost use Rattle.spare_die.specs.Table.{home};
+    ghost use Rattle.spare_die.specs.Table.{home, named_count, reserve_count};
     ghost use Rattle.spare_die.specs.Spare.{spare_place};
     ghost use Rattle.spare_die.specs.Tallies.{own_of, CountsUp, SameFaults, SameCounts};
     ghost use Rattle.spare_die.specs.Entering.{ErasesHome, IsBlankBlock, ReplacesHome, ReplaceFailed, IsLowest};
@@ -64,6 +99,14 @@ impl<D: WornDie> SpareDie<D> {
         ensures { result ≡ self.inner }
     {
         self.inner
+    }
+
+    /// The number of reserve blocks that no entry named at the opening, less the number of entries that were written since.
+    pub fn left(&self) -> u32
+        ensures left { result ≡ reserve_count (D.state self.now.inner) self.now.logical - self.now.tally.named_at_opening - self.now.tally.written }
+        ensures free { (D.state self.now.inner).change_faults ≡ 0 → result + named_count (D.state self.now.inner) self.now.logical ≡ reserve_count (D.state self.now.inner) self.now.logical }
+    {
+        self.inner.shape().blocks - (self.logical + 1) - self.tally.named_at_opening - self.tally.written
     }
 
     /// The inner block of a logical block.

@@ -33,7 +33,7 @@ invariant_of-self-clause-orderly g c =
       only = c.put_entry.ensures.only_page;
       page = c.in-Err.ensures.put_or_not;
     } in
-    orderly_stopped self.orderly (failed_homes failed) c.put_entry.ensures.kept.shape c.in-Err.ensures.failed.change_faults refl refl self.orderly.written (omega (arith, self.orderly.bad, c.put_entry.ensures.same_bad))
+    orderly_stopped self.orderly (failed_homes failed) c.put_entry.ensures.kept.shape c.in-Err.ensures.failed.change_faults refl refl self.orderly.written (omega (arith, self.orderly.bad, c.put_entry.ensures.same_bad)) (omega arith)
 
 pub invariant_of-self-clause-keeps : goal.invariant_of-self-clause-keeps
 invariant_of-self-clause-keeps g c =
@@ -45,7 +45,7 @@ invariant_of-self-clause-keeps g c =
       only = c.put_entry.ensures.only_page;
       page = c.in-Err.ensures.put_or_not;
     } in
-    keeps_facts (orderly_stopped {bad_erases' = g.D.WornDie.bad_erases c.put_entry.new.die} {book = self.book} {tally' = record self.tally { stopped = true }} self.orderly (failed_homes failed) c.put_entry.ensures.kept.shape c.in-Err.ensures.failed.change_faults refl refl self.orderly.written (omega (arith, self.orderly.bad, c.put_entry.ensures.same_bad)))
+    keeps_facts (orderly_stopped {bad_erases' = g.D.WornDie.bad_erases c.put_entry.new.die} {book = self.book} {tally' = record self.tally { stopped = true }} self.orderly (failed_homes failed) c.put_entry.ensures.kept.shape c.in-Err.ensures.failed.change_faults refl refl self.orderly.written (omega (arith, self.orderly.bad, c.put_entry.ensures.same_bad)) (omega arith))
 
 pub returns-in-Err-clause-replaces : goal.returns-in-Err-clause-replaces
 returns-in-Err-clause-replaces g c =
