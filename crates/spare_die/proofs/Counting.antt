@@ -26,9 +26,9 @@ pub count_one_more : (p q : ℕ → Bool) (a n one : ℕ) → a ≤ one → one 
 count_one_more p q a zero one from to before after same = absurd (omega arith)
 count_one_more p q a (suc n) one from to before after same = ⊎_elim
     (λ here. first (ap q (sym here) ∙ after) (ap p (sym here) ∙ before)
-      (count_same_range p q (a + 1) n (λ k above below. same k (omega arith) (omega arith) (λ e. absurd (omega (arith, here))))))
+    (count_same_range p q (a + 1) n (λ k above below. same k (omega arith) (omega arith) (λ e. absurd (omega (arith, here))))))
     (λ apart. later (same a (omega arith) (omega arith) (λ e. apart (sym e)))
-      (count_one_more p q (a + 1) n one (omega arith) (omega arith) before after (λ k above below. same k (omega arith) (omega arith))))
+    (count_one_more p q (a + 1) n one (omega arith) (omega arith) before after (λ k above below. same k (omega arith) (omega arith))))
     (cases_eq one a)
   where
     -- the count of the rest, and of the first number

@@ -107,10 +107,10 @@ entry_inner logical inner bytes room fits =
 pub between_ungated : (old new target : List ℕ) → IsBetween old new target → is_gated target ≡ false → is_gated new ≡ false
 between_ungated old new target between none = ⊎_elim
     (λ gated. absurd (let low : charge_at new 64 ≤ charge_at target 64 = between.below.charged 64 in
-      let one : charge_at new 64 ≡ 1 = eqb-true (charge_at new 64) 1 gated in
-      let most : charge_at target 64 < 2 = bit_at-lt (slice_index target 8) 0 in
-      let is : charge_at target 64 ≡ 1 = omega arith in
-      false≢true (sym none ∙ eq-eqb (charge_at target 64) 1 is)))
+    let one : charge_at new 64 ≡ 1 = eqb-true (charge_at new 64) 1 gated in
+    let most : charge_at target 64 < 2 = bit_at-lt (slice_index target 8) 0 in
+    let is : charge_at target 64 ≡ 1 = omega arith in
+    false≢true (sym none ∙ eq-eqb (charge_at target 64) 1 is)))
     (λ free. free)
     (cases_Bool (is_gated new))
 

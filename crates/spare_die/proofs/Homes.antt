@@ -16,7 +16,7 @@ homes_ungated inner new block (suc count) same = step (homes_ungated inner new b
   step : home_up_to new block count ≡ home_up_to inner block count
       → (page_of new count ≡ page_of inner count) ⊎ ((is_gated (page_of inner count) ≡ false) × (is_gated (page_of new count) ≡ false))
       → (if is_entry_for block (page_of new count) then inner_of (page_of new count) else home_up_to new block count)
-        ≡ (if is_entry_for block (page_of inner count) then inner_of (page_of inner count) else home_up_to inner block count)
+      ≡ (if is_entry_for block (page_of inner count) then inner_of (page_of inner count) else home_up_to inner block count)
   step before (inl page) = ap₂ (λ (page : List ℕ) (rest : ℕ). if is_entry_for block page then inner_of page else rest) page before
   step before (inr none) =
       ap (λ gated. if gated && (logical_of (page_of new count) == block) then inner_of (page_of new count) else home_up_to new block count) none.1
@@ -30,7 +30,7 @@ names_ungated inner new block (suc count) same = step (names_ungated inner new b
   step : is_named_up_to new block count ≡ is_named_up_to inner block count
       → (page_of new count ≡ page_of inner count) ⊎ ((is_gated (page_of inner count) ≡ false) × (is_gated (page_of new count) ≡ false))
       → (if is_entry_of block (page_of new count) then true else is_named_up_to new block count)
-        ≡ (if is_entry_of block (page_of inner count) then true else is_named_up_to inner block count)
+      ≡ (if is_entry_of block (page_of inner count) then true else is_named_up_to inner block count)
   step before (inl page) = ap₂ (λ (page : List ℕ) (rest : Bool). if is_entry_of block page then true else rest) page before
   step before (inr none) =
       ap (λ gated. if gated && (inner_of (page_of new count) == block) then true else is_named_up_to new block count) none.1
@@ -59,7 +59,7 @@ named_after inner new block table named (suc count) below others none gated is =
 
     at_last : table ≡ count → is_named_up_to new block count ≡ is_named_up_to inner block count
         → (if is_entry_of block (page_of new count) then true else is_named_up_to new block count)
-          ≡ ((named == block) || (if is_entry_of block (page_of inner count) then true else is_named_up_to inner block count))
+        ≡ ((named == block) || (if is_entry_of block (page_of inner count) then true else is_named_up_to inner block count))
     at_last here same =
         ap₂ (λ (page : List ℕ) (rest : Bool). if is_entry_of block page then true else rest) (ap (page_of new) (sym here)) same
         ∙ (ap₂ (λ (a : Bool) (n : ℕ). if a && (n == block) then true else is_named_up_to inner block count) gated is
@@ -68,7 +68,7 @@ named_after inner new block table named (suc count) below others none gated is =
 
     before_last : table ≢ count → is_named_up_to new block count ≡ ((named == block) || is_named_up_to inner block count)
         → (if is_entry_of block (page_of new count) then true else is_named_up_to new block count)
-          ≡ ((named == block) || (if is_entry_of block (page_of inner count) then true else is_named_up_to inner block count))
+        ≡ ((named == block) || (if is_entry_of block (page_of inner count) then true else is_named_up_to inner block count))
     before_last apart same =
         ap₂ (λ (page : List ℕ) (rest : Bool). if is_entry_of block page then true else rest) (others count (omega arith) (λ e. apart (sym e))) same
         ∙ swap (is_entry_of block (page_of inner count)) (named == block) (is_named_up_to inner block count)

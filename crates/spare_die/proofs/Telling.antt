@@ -9,8 +9,8 @@ use Rattle.cell_die.specs.Counts.{Rose}
 use Rattle.cell_die.specs.DieState.{DieState, page_of, page_bytes}
 use Rattle.cell_die.specs.Changes.{SameCells}
 use Rattle.cell_die.specs.Calls.{Kept, Passed, ReadFailed}
-use Rattle.spare_die.specs.declared.opening.OpenError.{OpenError}
-use Rattle.spare_die.specs.declared.opening.OpenError.TheVariants.{OutOfMemory, Shape as WrongShape, DieFault, Table}
+use Rattle.spare_die.specs.declared.error.OpenError.{OpenError}
+use Rattle.spare_die.specs.declared.error.OpenError.TheVariants.{OutOfMemory, Shape as WrongShape, DieFault, Table}
 use Rattle.spare_die.specs.SpareLaws.{home_up_to-same}
 use Rattle.spare_die.specs.declared.book.Book.{Book}
 use Rattle.spare_die.specs.declared.opening.Opening.{Opening}
@@ -74,13 +74,13 @@ homes_of_sound {inner} {logical} fits sound = record {
       (home_witness inner block inner.shape.pages);
   apart = λ block other below below' same. ⊎_elim
       (λ own. ⊎_elim
-        (λ own'. omega arith)
-        (λ found'. absurd (omega (arith, found'.3, sound.inner_past found'.0 found'.1 (and_parts _ _ found'.2).0)))
-        (home_witness inner other inner.shape.pages))
+      (λ own'. omega arith)
+      (λ found'. absurd (omega (arith, found'.3, sound.inner_past found'.0 found'.1 (and_parts _ _ found'.2).0)))
+      (home_witness inner other inner.shape.pages))
       (λ found. ⊎_elim
-        (λ own'. absurd (omega (arith, found.3, sound.inner_past found.0 found.1 (and_parts _ _ found.2).0)))
-        (λ found'. one_entry block other found.0 found'.0 found.1 found'.1 found.2 found'.2 (sym found.3 ∙ (same ∙ found'.3)))
-        (home_witness inner other inner.shape.pages))
+      (λ own'. absurd (omega (arith, found.3, sound.inner_past found.0 found.1 (and_parts _ _ found.2).0)))
+      (λ found'. one_entry block other found.0 found'.0 found.1 found'.1 found.2 found'.2 (sym found.3 ∙ (same ∙ found'.3)))
+      (home_witness inner other inner.shape.pages))
       (home_witness inner block inner.shape.pages);
 } where
   one_entry : (block other page page' : ℕ) → page < inner.shape.pages → page' < inner.shape.pages → is_entry_for block (page_of inner page) ≡ true → is_entry_for other (page_of inner page') ≡ true
@@ -93,9 +93,9 @@ homes_of_sound {inner} {logical} fits sound = record {
       ⊎_elim
       (λ here. sym names ∙ (ap (λ p. logical_of (page_of inner p)) here ∙ names'))
       (λ apart. ⊎_elim
-        (λ first. absurd (sound.apart page page' first inside' parts.0 parts'.0 same))
-        (λ later. absurd (sound.apart page' page (omega arith) inside parts'.0 parts.0 (sym same)))
-        (cases_lt page page'))
+      (λ first. absurd (sound.apart page page' first inside' parts.0 parts'.0 same))
+      (λ later. absurd (sound.apart page' page (omega arith) inside parts'.0 parts.0 (sym same)))
+      (cases_lt page page'))
       (cases_eq page page')
 
 -- a page more that is no entry
@@ -148,7 +148,7 @@ sound_entry {inner} {logical} {page} {opening} a = record {
       (cases_eq p page);
   apart = λ p later first below gated gated' same. ⊎_elim
       (λ here. absurd (false≢true (sym (free_parts a).1 ∙ named_by inner (inner_of (page_of inner page)) page p (omega arith)
-        (ap₂ (λ (a b : Bool). a && b) gated (eq-eqb (inner_of (page_of inner p)) (inner_of (page_of inner page)) (same ∙ ap (λ p. inner_of (page_of inner p)) here))))))
+      (ap₂ (λ (a b : Bool). a && b) gated (eq-eqb (inner_of (page_of inner p)) (inner_of (page_of inner page)) (same ∙ ap (λ p. inner_of (page_of inner p)) here))))))
       (λ apart. a.told.sound.apart p later first (omega arith) gated gated' same)
       (cases_eq later page);
   order = λ blank gated first below is. ⊎_elim
@@ -173,9 +173,9 @@ wrong_entry {inner} {logical} {page} {opening} told inside wrong sound = wrong.w
   unnamed : is_named_up_to inner (inner_of (page_of inner page)) page ≡ false
   unnamed = ⊎_elim
       (λ is.
-        let found : (p : ℕ) × (p < page) × (is_entry_of (inner_of (page_of inner page)) (page_of inner p) ≡ true) = named_witness inner (inner_of (page_of inner page)) page is in
-        let parts : (is_gated (page_of inner found.0) ≡ true) × ((inner_of (page_of inner found.0) == inner_of (page_of inner page)) ≡ true) = and_parts _ _ found.2 in
-        absurd (sound.entries.apart found.0 page found.1 inside parts.0 wrong.gated (eqb-true (inner_of (page_of inner found.0)) (inner_of (page_of inner page)) parts.1)))
+      let found : (p : ℕ) × (p < page) × (is_entry_of (inner_of (page_of inner page)) (page_of inner p) ≡ true) = named_witness inner (inner_of (page_of inner page)) page is in
+      let parts : (is_gated (page_of inner found.0) ≡ true) × ((inner_of (page_of inner found.0) == inner_of (page_of inner page)) ≡ true) = and_parts _ _ found.2 in
+      absurd (sound.entries.apart found.0 page found.1 inside parts.0 wrong.gated (eqb-true (inner_of (page_of inner found.0)) (inner_of (page_of inner page)) parts.1)))
       (λ is. is)
       (cases_Bool (is_named_up_to inner (inner_of (page_of inner page)) page))
 
@@ -192,7 +192,7 @@ used_more : {inner : DieState} {logical page : ℕ} {old new : Opening} → Told
     → (p : ℕ) → p < page + 1 → slice_index_or new.book.used.items p true ≡ is_used inner p
 used_more {inner} {logical} {page} {old} {new} told inside notes = λ p below. ap (λ (xs : List Bool). get_or xs p true) notes.used ∙ ⊎_elim
     (λ here. ap (λ n. get_or (set old.book.used.items page (not (is_blank (page_of inner page)))) n true) here
-      ∙ (get_or-set_same old.book.used.items page (not (is_blank (page_of inner page))) true (omega (arith, told.rows.used)) ∙ ap (is_used inner) (sym here)))
+    ∙ (get_or-set_same old.book.used.items page (not (is_blank (page_of inner page))) true (omega (arith, told.rows.used)) ∙ ap (is_used inner) (sym here)))
     (λ apart. get_or-set_other old.book.used.items page p (not (is_blank (page_of inner page))) true apart ∙ told.used p (omega arith))
     (cases_eq p page)
 
@@ -206,13 +206,13 @@ lowest_blank page at row old is = ⊎_elim
 blank_more : {inner : DieState} {logical page : ℕ} {old new : Opening} → Told inner logical page old → page < inner.shape.pages → NotesPage logical page (page_of inner page) old new → new.blank < page + 1 → is_blank (page_of inner new.blank) ≡ true
 blank_more {inner} {logical} {page} {old} {new} told inside notes = λ below. ⊎_elim
     (λ blank. ⊎_elim
-      (λ before. let same : new.blank ≡ old.blank = omega (arith, blank.1) in ap (λ p. is_blank (page_of inner p)) same ∙ told.blank before)
-      (λ past. let same : new.blank ≡ page = omega (arith, blank.1) in ap (λ p. is_blank (page_of inner p)) same ∙ blank.0)
-      (cases_lt old.blank page))
+    (λ before. let same : new.blank ≡ old.blank = omega (arith, blank.1) in ap (λ p. is_blank (page_of inner p)) same ∙ told.blank before)
+    (λ past. let same : new.blank ≡ page = omega (arith, blank.1) in ap (λ p. is_blank (page_of inner p)) same ∙ blank.0)
+    (cases_lt old.blank page))
     (λ used. ⊎_elim
-      (λ before. ap (λ p. is_blank (page_of inner p)) used.1 ∙ told.blank before)
-      (λ past. absurd (omega (arith, used.1, told.reach past)))
-      (cases_lt old.blank page))
+    (λ before. ap (λ p. is_blank (page_of inner p)) used.1 ∙ told.blank before)
+    (λ past. absurd (omega (arith, used.1, told.reach past)))
+    (cases_lt old.blank page))
     (lowest_blank page new.blank (page_of inner page) old.blank notes.blank)
 
 reach_more : {inner : DieState} {logical page : ℕ} {old new : Opening} → Told inner logical page old → NotesPage logical page (page_of inner page) old new → page + 1 ≤ new.blank → inner.shape.pages ≤ new.blank
@@ -225,9 +225,9 @@ below_page : {inner : DieState} {logical page : ℕ} {old new : Opening} → Tol
 below_page {inner} {logical} {page} {old} {new} told notes = λ p below first. ⊎_elim
     (λ blank. told.used_below p (omega (arith, blank.1)) (omega (arith, blank.1)))
     (λ used. ⊎_elim
-      (λ here. ap (λ p. is_blank (page_of inner p)) here ∙ used.0)
-      (λ apart. told.used_below p (omega arith) (omega (arith, used.1)))
-      (cases_eq p page))
+    (λ here. ap (λ p. is_blank (page_of inner p)) here ∙ used.0)
+    (λ apart. told.used_below p (omega arith) (omega (arith, used.1)))
+    (cases_eq p page))
     (lowest_blank page new.blank (page_of inner page) old.blank notes.blank)
 
 -- what a table page adds
@@ -262,18 +262,18 @@ told_entry {inner} {logical} {page} {old} {new} told inside notes gated = record
   sound = sound_entry admits;
   homes = λ block below. ap (λ (xs : List ℕ). get_or xs block 0) (notes.homes gated) ∙ (⊎_elim
       (λ here. ap (λ n. get_or (set old.book.homes.items (logical_of (page_of inner page)) (inner_of (page_of inner page))) n 0) here
-        ∙ (get_or-set_same old.book.homes.items (logical_of (page_of inner page)) (inner_of (page_of inner page)) 0 (omega (arith, (notes.admitted gated).logical_inside, told.rows.homes))
-        ∙ sym (home_of_entry inner block page (ap₂ (λ (a b : Bool). a && b) gated (eq-eqb (logical_of (page_of inner page)) block (sym here))))))
+      ∙ (get_or-set_same old.book.homes.items (logical_of (page_of inner page)) (inner_of (page_of inner page)) 0 (omega (arith, (notes.admitted gated).logical_inside, told.rows.homes))
+      ∙ sym (home_of_entry inner block page (ap₂ (λ (a b : Bool). a && b) gated (eq-eqb (logical_of (page_of inner page)) block (sym here))))))
       (λ apart. get_or-set_other old.book.homes.items (logical_of (page_of inner page)) block (inner_of (page_of inner page)) 0 apart
-        ∙ (told.homes block below ∙ sym (home_of_other inner block page (ap₂ (λ (a b : Bool). a && b) gated (ne_eqb (logical_of (page_of inner page)) block (λ e. apart (sym e)))))))
+      ∙ (told.homes block below ∙ sym (home_of_other inner block page (ap₂ (λ (a b : Bool). a && b) gated (ne_eqb (logical_of (page_of inner page)) block (λ e. apart (sym e)))))))
       (cases_eq block (logical_of (page_of inner page)))
       ∙ ap (home_up_to inner block) (sym (add-one page)));
   taken = λ block below. ap (λ (xs : List Bool). get_or xs block true) (notes.taken gated) ∙ (⊎_elim
       (λ here. ap (λ n. get_or (set old.book.taken.items (inner_of (page_of inner page)) true) n true) here
-        ∙ (get_or-set_same old.book.taken.items (inner_of (page_of inner page)) true true (omega (arith, named_inside admits, told.rows.taken))
-        ∙ sym (ap (λ (b : Bool). nat_le block logical || b) (name_of_entry inner block page (ap₂ (λ (a b : Bool). a && b) gated (eq-eqb (inner_of (page_of inner page)) block (sym here)))) ∙ or_true (nat_le block logical))))
+      ∙ (get_or-set_same old.book.taken.items (inner_of (page_of inner page)) true true (omega (arith, named_inside admits, told.rows.taken))
+      ∙ sym (ap (λ (b : Bool). nat_le block logical || b) (name_of_entry inner block page (ap₂ (λ (a b : Bool). a && b) gated (eq-eqb (inner_of (page_of inner page)) block (sym here)))) ∙ or_true (nat_le block logical))))
       (λ apart. get_or-set_other old.book.taken.items (inner_of (page_of inner page)) block true true apart
-        ∙ (told.taken block below ∙ ap (λ (b : Bool). nat_le block logical || b) (sym (name_of_other inner block page (ap₂ (λ (a b : Bool). a && b) gated (ne_eqb (inner_of (page_of inner page)) block (λ e. apart (sym e))))))))
+      ∙ (told.taken block below ∙ ap (λ (b : Bool). nat_le block logical || b) (sym (name_of_other inner block page (ap₂ (λ (a b : Bool). a && b) gated (ne_eqb (inner_of (page_of inner page)) block (λ e. apart (sym e))))))))
       (cases_eq block (inner_of (page_of inner page)))
       ∙ ap (λ n. nat_le block logical || is_named_up_to inner block n) (sym (add-one page)));
   used = used_more told inside notes;

@@ -94,9 +94,9 @@ pub homes_before : {inner new : DieState} {logical named at : ℕ} (block : ℕ)
 homes_before {inner} {new} {logical} {named} {at} block place shape only ungated =
     ap (λ (shape : Shape). home_up_to new block shape.pages) shape
     ∙ homes_ungated inner new block inner.shape.pages (λ page below. ⊎_elim
-      (λ here. inr (ungated_from page place (omega arith) below, ap (λ p. is_gated (page_of new p)) here ∙ ungated))
-      (λ apart. inl (only.others page apart))
-      (cases_eq page at))
+    (λ here. inr (ungated_from page place (omega arith) below, ap (λ p. is_gated (page_of new p)) here ∙ ungated))
+    (λ apart. inl (only.others page apart))
+    (cases_eq page at))
 
 -- homes that stay
 pub homes_along : {inner new : DieState} {logical : ℕ} → HasHomes inner logical → new.shape ≡ inner.shape → ((block : ℕ) → home new block ≡ home inner block) → HasHomes new logical
@@ -148,13 +148,13 @@ homes_moved {inner} {new} {logical} {block} {named} {at} place shape m = record 
       (cases_eq other block);
   apart = λ one other below below' e. ⊎_elim
       (λ same. ⊎_elim
-        (λ same'. same ∙ sym same')
-        (λ apart'. absurd (place_not_free inner logical named other below' place.past place.free (sym (m.others other apart') ∙ (sym e ∙ (ap (home new) same ∙ m.here)))))
-        (cases_eq other block))
+      (λ same'. same ∙ sym same')
+      (λ apart'. absurd (place_not_free inner logical named other below' place.past place.free (sym (m.others other apart') ∙ (sym e ∙ (ap (home new) same ∙ m.here)))))
+      (cases_eq other block))
       (λ apart. ⊎_elim
-        (λ same'. absurd (place_not_free inner logical named one below place.past place.free (sym (m.others one apart) ∙ (e ∙ (ap (home new) same' ∙ m.here)))))
-        (λ apart'. place.homes.apart one other below below' (sym (m.others one apart) ∙ (e ∙ m.others other apart')))
-        (cases_eq other block))
+      (λ same'. absurd (place_not_free inner logical named one below place.past place.free (sym (m.others one apart) ∙ (e ∙ (ap (home new) same' ∙ m.here)))))
+      (λ apart'. place.homes.apart one other below below' (sym (m.others one apart) ∙ (e ∙ m.others other apart')))
+      (cases_eq other block))
       (cases_eq one block);
 }
 
@@ -221,9 +221,9 @@ table_written {inner} {new} {logical} {block} {named} {at} w = record {
       ⊎_elim
       (λ here. absurd (false≢true (sym (gated_used (page_of new at) w.entry.gated) ∙ (ap (λ p. is_blank (page_of new p)) (sym here) ∙ blank))))
       (λ other. let blank' : is_blank (page_of inner first) ≡ true = ap is_blank (sym (w.only.others first other)) ∙ blank in ⊎_elim
-        (λ under. absurd (false≢true (sym (w.place.used_below first under) ∙ blank')))
-        (λ over. ap is_gated (w.only.others later (λ same. absurd (omega arith))) ∙ w.place.table.order first later apart inside' blank')
-        (cases_lt first at))
+      (λ under. absurd (false≢true (sym (w.place.used_below first under) ∙ blank')))
+      (λ over. ap is_gated (w.only.others later (λ same. absurd (omega arith))) ∙ w.place.table.order first later apart inside' blank')
+      (cases_lt first at))
       (cases_eq first at);
 }
 
@@ -238,9 +238,9 @@ book_written {inner} {new} {logical} {block} {named} {at} {book} {book'} w rows 
       let below' : other < inner.shape.blocks = rw w.shape at below in
       ap (λ (xs : List Bool). get_or xs other true) noted.taken ∙ (⊎_elim
       (λ same. ap (λ n. get_or (set book.taken.items named true) n true) same ∙ (get_or-set_same book.taken.items named true true named_row
-        ∙ sym (or_right (nat_le other logical) (ap (λ (x : Bool). x || is_named inner other) (eq-eqb named other (sym same))))))
+      ∙ sym (or_right (nat_le other logical) (ap (λ (x : Bool). x || is_named inner other) (eq-eqb named other (sym same))))))
       (λ apart. get_or-set_other book.taken.items named other true true apart ∙ (b.taken other below'
-        ∙ ap (λ (x : Bool). nat_le other logical || (x || is_named inner other)) (sym (ne_eqb named other (λ e. apart (sym e))))))
+      ∙ ap (λ (x : Bool). nat_le other logical || (x || is_named inner other)) (sym (ne_eqb named other (λ e. apart (sym e))))))
       (cases_eq other named)
       ∙ ap (λ (x : Bool). nat_le other logical || x) (sym (names_moved other w.place w.shape w.only w.entry)));
   used = λ page below.

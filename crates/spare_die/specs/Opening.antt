@@ -7,8 +7,8 @@ use Rattle.cell_die.specs.DieState.{DieState, page_of}
 use Rattle.spare_die.specs.declared.book.Book.{Book}
 use Rattle.spare_die.specs.declared.tally.Tally.{Tally}
 use Rattle.spare_die.specs.declared.opening.Opening.{Opening}
-use Rattle.spare_die.specs.declared.opening.OpenError.{OpenError}
-use Rattle.spare_die.specs.declared.opening.OpenError.TheVariants.{OutOfMemory, Shape as WrongShape, DieFault, Table}
+use Rattle.spare_die.specs.declared.error.OpenError.{OpenError}
+use Rattle.spare_die.specs.declared.error.OpenError.TheVariants.{OutOfMemory, Shape as WrongShape, DieFault, Table}
 use Rattle.spare_die.specs.Table.{home_up_to, is_named, is_named_up_to, is_used, is_gated, logical_of, inner_of, named_count, used_count}
 use Rattle.spare_die.specs.Entering.{IsBlankBlock}
 use Rattle.spare_die.specs.Book.{HasRows}

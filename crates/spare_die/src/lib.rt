@@ -4,11 +4,12 @@
 
 mod book;
 pub mod entry;
-mod spare;
+mod error;
 mod opening;
+mod spare;
 mod tally;
 #[cfg(test)]
 mod tests;
 
-pub use opening::OpenError;
+pub use error::OpenError;
 pub use spare::{OpenRefused, SpareDie, open};

@@ -3,36 +3,17 @@ ghost use Rattle.std.specs.Prelude.{◌≡◌, ◌<◌, ◌≤◌, ◌*◌, ◌+
 ghost use Rattle.cell_die.specs.DieState.{page_bytes, page_of};
 ghost use Rattle.spare_die.specs.Table.{is_named};
 ghost use Rattle.spare_die.specs.Book.{HasRows, IsBookOf, IsOrderly};
-ghost use Rattle.spare_die.specs.declared.opening.OpenError.TheVariants.{OutOfMemory};
 ghost use Rattle.cell_die.specs.Counts.{Rose};
 ghost use Rattle.spare_die.specs.Entering.{IsBlankBlock};
 ghost use Rattle.spare_die.specs.Opening.{FitsShape, IsSoundTable, OpenCause, OnlyReads, NotesPage, IsWrongEntry, Told, SparesUpTo, IsFresh, IsFreshTally, StartsAt};
 
 use crate::book::Book;
 use crate::entry::{Entry, read};
+use crate::error::OpenError;
 use crate::tally::Tally;
 use cell_bits::is_blank;
 use cell_die::{DieFault, Shape, WornDie};
 use std::alloc::{AllocError, Global};
-
-/// Why a die is refused, the first that applies.
-#[derive(Clone, Copy, Debug, PartialEq, Eq)]
-pub enum OpenError {
-    OutOfMemory = 1,
-    /// Fewer than two logical blocks, no room for them and the table, more than 1,024 blocks or 128 pages, or no room for an entry.
-    Shape = 2,
-    DieFault = 3,
-    /// An entry that cannot stand in the table, or a reserve block without an entry that is not blank.
-    Table = 4,
-}
-
-impl From<AllocError> for OpenError {
-    ghost from_gives = { λ _ e. e ≡ OutOfMemory };
-
-    fn from(_: AllocError) -> OpenError {
-        OpenError::OutOfMemory
-    }
-}
 
 /// What the table tells so far.
 #[derive(Drop)]
@@ -112,7 +93,13 @@ impl Opening {
 }
 
 /// Reads a table page, and notes it.
-fn read_entry<D: WornDie>(die: &mut D, logical: u32, page: u32, opening: &mut Opening, row: &mut [u8]) -> Result<(), OpenError>
+fn read_entry<D: WornDie>(
+    die: &mut D,
+    logical: u32,
+    page: u32,
+    opening: &mut Opening,
+    row: &mut [u8],
+) -> Result<(), OpenError>
     requires fits { FitsShape (D.state die.old).shape logical }
     requires inside { page < (D.state die.old).shape.pages }
     requires told { Told (D.state die.old) logical page opening.old }
@@ -128,7 +115,12 @@ fn read_entry<D: WornDie>(die: &mut D, logical: u32, page: u32, opening: &mut Op
 }
 
 /// Reads the table.
-fn read_table<D: WornDie>(die: &mut D, logical: u32, opening: &mut Opening, row: &mut [u8]) -> Result<(), OpenError>
+fn read_table<D: WornDie>(
+    die: &mut D,
+    logical: u32,
+    opening: &mut Opening,
+    row: &mut [u8],
+) -> Result<(), OpenError>
     requires fits { FitsShape (D.state die.old).shape logical }
     requires told { Told (D.state die.old) logical 0 opening.old }
     requires whole_page { length row.old ≡ page_bytes (D.state die.old).shape }
@@ -165,7 +157,12 @@ fn read_blank<D: WornDie>(die: &mut D, block: u32, row: &mut [u8]) -> Result<boo
 }
 
 /// Reads the reserve blocks that no entry names.
-fn read_reserve<D: WornDie>(die: &mut D, logical: u32, book: &Book, row: &mut [u8]) -> Result<(), OpenError>
+fn read_reserve<D: WornDie>(
+    die: &mut D,
+    logical: u32,
+    book: &Book,
+    row: &mut [u8],
+) -> Result<(), OpenError>
     requires fits { FitsShape (D.state die.old).shape logical }
     requires book { IsBookOf (D.state die.old) logical book.now }
     requires rows { HasRows (D.state die.old) logical book.now }
@@ -184,7 +181,12 @@ fn read_reserve<D: WornDie>(die: &mut D, logical: u32, book: &Book, row: &mut [u
 }
 
 /// Reads a reserve block that no entry names.
-fn read_spare<D: WornDie>(die: &mut D, logical: u32, block: u32, row: &mut [u8]) -> Result<(), OpenError>
+fn read_spare<D: WornDie>(
+    die: &mut D,
+    logical: u32,
+    block: u32,
+    row: &mut [u8],
+) -> Result<(), OpenError>
     requires fits { FitsShape (D.state die.old).shape logical }
     requires past { logical < block }
     requires inside { block < (D.state die.old).shape.blocks }

@@ -12,7 +12,8 @@ ghost use Rattle.spare_die.specs.Book.{IsOrderly, KeepsFacts};
 
 use crate::book::{Book, Place};
 use crate::entry::{Entry, GATE, spell};
-use crate::opening::{OpenError, Opened, read_die};
+use crate::error::OpenError;
+use crate::opening::{Opened, read_die};
 use crate::tally::Tally;
 use cell_die::{Die, DieFault, Erased, Shape, WornDie};
 use std::alloc::Global;
@@ -32,7 +33,12 @@ pub struct SpareDie<D: WornDie> {
 }
 
 /// Writes an entry on a blank table page: first all but its gate, then the gate.
-fn put_entry<D: WornDie>(die: &mut D, at: u32, entry: Entry, page: &mut [u8]) -> Result<(), DieFault>
+fn put_entry<D: WornDie>(
+    die: &mut D,
+    at: u32,
+    entry: Entry,
+    page: &mut [u8],
+) -> Result<(), DieFault>
     requires inside { at < page_count (D.state die.old).shape }
     requires room { 9 ≤ page_bytes (D.state die.old).shape }
     requires logical { entry.logical < 1024 }
@@ -106,7 +112,10 @@ impl<D: WornDie> SpareDie<D> {
         ensures left { result ≡ reserve_count (D.state self.now.inner) self.now.logical - self.now.tally.named_at_opening - self.now.tally.written }
         ensures free { (D.state self.now.inner).change_faults ≡ 0 → result + named_count (D.state self.now.inner) self.now.logical ≡ reserve_count (D.state self.now.inner) self.now.logical }
     {
-        self.inner.shape().blocks - (self.logical + 1) - self.tally.named_at_opening - self.tally.written
+        self.inner.shape().blocks
+            - (self.logical + 1)
+            - self.tally.named_at_opening
+            - self.tally.written
     }
 
     /// The inner block of a logical block.

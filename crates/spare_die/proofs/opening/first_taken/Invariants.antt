@@ -5,5 +5,5 @@ abbrev pub invariant-loop-block : goal.invariant-loop-block
 invariant-loop-block l = record {
   long : length l.taken.items ≡ l.fn.blocks;
   done : (block : ℕ) → block < l.block → get_or l.taken.items block true ≡ true;
-  rest : (block : ℕ) → l.block ≤ block → block < l.fn.blocks → get_or l.taken.items block true ≡ false
+  rest : (block : ℕ) → l.block ≤ block → block < l.fn.blocks → get_or l.taken.items block true ≡ false;
 }

@@ -7,5 +7,5 @@ abbrev pub invariant-loop-block : goal.invariant-loop-block
 invariant-loop-block g l = record {
   spares : SparesUpTo (g.D.WornDie.state l.fn.die) l.fn.logical l.block;
   reads : OnlyReads (g.D.WornDie.state l.fn.die) (g.D.WornDie.state l.die);
-  row : length l.row ≡ page_bytes (g.D.WornDie.state l.fn.die).shape
+  row : length l.row ≡ page_bytes (g.D.WornDie.state l.fn.die).shape;
 }

@@ -7,5 +7,5 @@ abbrev pub invariant-loop-page : goal.invariant-loop-page
 invariant-loop-page g l = record {
   told : Told (g.D.WornDie.state l.fn.die) l.fn.logical l.page l.opening;
   reads : OnlyReads (g.D.WornDie.state l.fn.die) (g.D.WornDie.state l.die);
-  row : length l.row ≡ page_bytes (g.D.WornDie.state l.fn.die).shape
+  row : length l.row ≡ page_bytes (g.D.WornDie.state l.fn.die).shape;
 }
