@@ -227,13 +227,13 @@ impl<D: WornDie> SpareDie<D> {
 }
 
 impl<D: WornDie> Die for SpareDie<D> {
-    ghost use Rattle.std.specs.Prelude.{◌≡◌, ◌⊎◌, ◌<◌, ◌*◌, ◌||◌, true, length, OnOk, OnErr, IsErr, is_err};
+    ghost use Rattle.std.specs.Prelude.{◌≡◌, ◌⊎◌, ◌<◌, ◌*◌, ◌||◌, true, false, length, OnOk, OnErr, IsErr, is_err};
     ghost use Rattle.cell_die.specs.Cells.{IsAbove, charge};
     ghost use Rattle.cell_die.specs.DieState.{page_count, page_bytes, page_of};
     ghost use Rattle.cell_die.specs.Changes.{SameCells, OnlyPage, OnlyBlock, IsBetween, IsErased, ErasedInPart};
     ghost use Rattle.cell_die.specs.Calls.{Kept, Passed, ChangeFailed, ReadFailed, HeldWithoutPower};
     ghost use Rattle.spare_die.specs.Spare.{spare_state};
-    ghost use Rattle.spare_die.specs.Tallies.{own_of};
+    ghost use Rattle.spare_die.specs.Tallies.{own_of, CountsUp};
     ghost use Rattle.spare_die.specs.Book.{BadUsedUp};
     ghost use Rattle.spare_die.specs.SpareLaws.{spare_shaped};
 
@@ -269,6 +269,7 @@ impl<D: WornDie> Die for SpareDie<D> {
             (spare_state (D.state self.new.inner) self.new.logical (own_of self.new.tally)) }
         // After a failed change call each read fails; else it fails only where the inner die's count rose in this call.
         ensures refused { self.old.tally.stopped ≡ true → IsErr result }
+        ensures untouched { self.old.tally.stopped ≡ true → self.new.inner ≡ self.old.inner }
         ensures cause { OnErr result ((self.old.tally.stopped ≡ true) ⊎ ReadFailed 0 1 (D.state self.old.inner) (D.state self.new.inner)) }
         ensures stopped { self.new.tally.stopped ≡ self.old.tally.stopped }
     {
@@ -302,6 +303,7 @@ impl<D: WornDie> Die for SpareDie<D> {
             (spare_state (D.state self.new.inner) self.new.logical (own_of self.new.tally)) }
         // After a failed change call each call fails; else this one fails only where the inner die's count rose in it.
         ensures refused { self.old.tally.stopped ≡ true → IsErr result }
+        ensures untouched { self.old.tally.stopped ≡ true → self.new.inner ≡ self.old.inner }
         ensures cause { OnErr result ((self.old.tally.stopped ≡ true) ⊎ ChangeFailed 1 0 (D.state self.old.inner) (D.state self.new.inner)) }
         ensures stopped { self.new.tally.stopped ≡ (self.old.tally.stopped || is_err result) }
     {
@@ -342,6 +344,7 @@ impl<D: WornDie> Die for SpareDie<D> {
             (spare_state (D.state self.new.inner) self.new.logical (own_of self.new.tally)) }
         // After a failed change call each call fails; else this one fails only where the inner die's count rose in it.
         ensures refused { self.old.tally.stopped ≡ true → IsErr result }
+        ensures untouched { self.old.tally.stopped ≡ true → self.new.inner ≡ self.old.inner }
         ensures cause { OnErr result ((self.old.tally.stopped ≡ true) ⊎ ChangeFailed 1 0 (D.state self.old.inner) (D.state self.new.inner)) }
         ensures stopped { self.new.tally.stopped ≡ (self.old.tally.stopped || is_err result) }
     {
@@ -385,9 +388,11 @@ impl<D: WornDie> Die for SpareDie<D> {
         // After a failed change call each erase fails; else it fails only where the inner die's count rose in it, or where an
         // erase of the inner die went bad and reserve or table is used up.
         ensures refused { self.old.tally.stopped ≡ true → IsErr result }
+        ensures untouched { self.old.tally.stopped ≡ true → self.new.inner ≡ self.old.inner }
         ensures cause { OnErr result ((self.old.tally.stopped ≡ true) ⊎ (ChangeFailed 3 0 (D.state self.old.inner) (D.state self.new.inner) ⊎ BadUsedUp
             (D.state self.new.inner) (D.bad_erases self.old.inner) (D.bad_erases self.new.inner) self.new.logical)) }
         ensures stopped { self.new.tally.stopped ≡ (self.old.tally.stopped || is_err result) }
+        ensures counted { self.old.tally.stopped ≡ false → CountsUp block (own_of self.old.tally) (own_of self.new.tally) }
     {
         if self.tally.stopped {
             return Err(self.tally.refuse_change());

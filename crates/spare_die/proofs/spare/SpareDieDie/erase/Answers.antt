@@ -163,3 +163,6 @@ returns-in-Bad-clause-kept g c =
     } in
     rw (c.replace.ensures.logical, c.erase_home.ensures.logical)
     (kept_erase (own_of self.tally) (own_of new.tally) (renews_replaced replaced) (counts_replaced c.erase_home.ensures.counts c.replace.ensures.same_counts) (later_replaced c.erase_home.ensures.same_faults c.replace.ensures.same_counts) (kept_trans c.erase_home.ensures.kept c.replace.ensures.kept))
+
+pub returns-in-Bad-clause-counted : goal.returns-in-Bad-clause-counted
+returns-in-Bad-clause-counted g c = λ running. counts_replaced c.erase_home.ensures.counts c.replace.ensures.same_counts
