@@ -1,17 +1,17 @@
 -- What a call of the inner die that leaves the table as it was leaves of the die: each logical page goes with the page at its
 -- place, and no logical block moves.
-use Rattle.std.proofs.Common.{◌≡◌, ◌≢◌, ◌⊎◌, inl, inr, ℕ, ◌+◌, ◌*◌, ◌/◌, ◌%◌, ◌<◌, ◌≤◌, List, [], refl, ap, ap₂, sym, subst, ◌∙◌, arith, ◌∷◌, ◌++◌, ⊎_elim}
-use Rattle.std.proofs.lemmas.Bool.{cases_lt, cases_eq}
+use Rattle.std.proofs.Common.{◌≡◌, ℕ, ◌+◌, ◌*◌, ◌/◌, ◌%◌, ◌<◌, ◌≤◌, List, [], refl, ap, sym, ◌∙◌, arith, ◌∷◌, ◌++◌, ⊎_elim}
+use Rattle.std.proofs.lemmas.Bool.{cases_lt}
 use Rattle.cell_die.specs.declared.shape.Shape.{Shape}
 use Rattle.cell_die.specs.Cells.{IsAbove}
-use Rattle.cell_die.specs.DieState.{DieState, IsShaped, page_of, page_count, block_of, erases_of}
-use Rattle.cell_die.specs.Changes.{SameCells, OnlyPage, NeverFalls}
+use Rattle.cell_die.specs.DieState.{DieState, IsShaped, page_of}
+use Rattle.cell_die.specs.Changes.{OnlyPage, NeverFalls}
 use Rattle.cell_die.specs.Calls.{Kept}
 use Rattle.cell_die.proofs.Single.{page_above_never_falls}
 use Rattle.spare_die.specs.Table.{home, HasHomes}
 use Rattle.spare_die.specs.Spare.{Own, spare_state, spare_place, spare_shape}
 use Rattle.spare_die.specs.Tallies.{OwnLater}
-use Rattle.spare_die.specs.SpareLaws.{home-same, place_inside, place_past_table, place_apart, page_of-spare, page_of-spare_past, logical_inside}
+use Rattle.spare_die.specs.SpareLaws.{home-same, place_past_table, place_apart, page_of-spare, page_of-spare_past}
 
 -- a call of the inner die that leaves the table and the erase counts as they were
 pub record LeavesTable (inner new : DieState) (logical : ℕ) : Type 0 where

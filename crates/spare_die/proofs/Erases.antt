@@ -1,17 +1,15 @@
 -- What an erase leaves, however it ends: the inner block of its logical block and the table may change, and no other logical
 -- block moves or changes.
-use Rattle.std.proofs.Common.{◌≡◌, ◌≢◌, ℕ, ◌+◌, ◌*◌, ◌/◌, ◌%◌, ◌<◌, ◌≤◌, List, [], refl, ap, ap₂, sym, ◌∙◌, arith, ⊎_elim}
-use Rattle.std.specs.Prelude.{slice_index}
+use Rattle.std.proofs.Common.{◌≡◌, ◌≢◌, ℕ, ◌+◌, ◌*◌, ◌/◌, ◌%◌, ◌<◌, ◌≤◌, ap, sym, ◌∙◌, arith, ⊎_elim}
 use Rattle.std.proofs.lemmas.Bool.{cases_lt}
 use Rattle.std.proofs.Math.Nat.{div-lt_iff_lt-mul}
 use Rattle.cell_die.specs.declared.shape.Shape.{Shape}
 use Rattle.cell_die.specs.Cells.{IsAbove, blank_page}
-use Rattle.cell_die.specs.Counts.{raised}
-use Rattle.cell_die.specs.DieState.{DieState, IsShaped, page_of, page_bytes, block_of, erases_of}
+use Rattle.cell_die.specs.DieState.{DieState, page_of, page_bytes}
 use Rattle.cell_die.specs.Changes.{OnlyBlock, IsErased, ErasedInPart}
 use Rattle.cell_die.specs.Calls.{Kept}
 use Rattle.cell_die.proofs.Single.{block_rose_never_falls}
-use Rattle.spare_die.specs.Table.{home, HasHomes}
+use Rattle.spare_die.specs.Table.{home}
 use Rattle.spare_die.specs.Spare.{Own, spare_state, spare_place}
 use Rattle.spare_die.specs.SpareLaws.{place_block, place_past_table, page_of-spare, page_of-spare_past, logical_inside}
 use Rattle.spare_die.specs.Tallies.{OwnLater, CountsUp}

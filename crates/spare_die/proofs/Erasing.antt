@@ -1,21 +1,20 @@
 -- What an erase of the home of a logical block leaves, before the block is moved.
-use Rattle.std.proofs.Common.{◌≡◌, ◌≢◌, ◌⊎◌, ℕ, ◌+◌, ◌*◌, ◌/◌, ◌^◌, ◌<◌, ◌≤◌, min, true, false, List, length, refl, ap, sym, ◌∙◌, arith, ⊎_elim}
+use Rattle.std.proofs.Common.{◌≡◌, ◌⊎◌, ℕ, ◌/◌, ◌<◌, ◌≤◌, true, false, List, length, refl, ap, sym, ◌∙◌, arith, ⊎_elim}
 use Rattle.std.proofs.Math.Nat.{div-lt_iff_lt-mul}
 use Rattle.std.proofs.lemmas.Bool.{false≢true}
 use Rattle.std.proofs.lemmas.List.Sums.{count_by-le-length}
 use Rattle.std.proofs.lemmas.List.FromFn.{length-range_with_len}
 use Rattle.std.specs.List.{range_with_len}
 use Rattle.cell_bits.proofs.Above.{above_refl}
-use Rattle.cell_die.specs.declared.shape.Shape.{Shape}
-use Rattle.cell_die.specs.Cells.{IsAbove, page_at, blank_page}
+use Rattle.cell_die.specs.Cells.{page_at}
 use Rattle.cell_die.specs.Counts.{Rose, raised}
-use Rattle.cell_die.specs.DieState.{DieState, IsShaped, page_of, page_bytes, page_count}
+use Rattle.cell_die.specs.DieState.{DieState, IsShaped, page_of, page_bytes}
 use Rattle.cell_die.specs.Changes.{SameCells, OnlyBlock, IsErased, ErasedInPart}
 use Rattle.cell_die.specs.Calls.{Kept, ChangeFailed}
 use Rattle.cell_die.proofs.CellLaws.{above_blank}
 use Rattle.spare_die.specs.declared.book.Book.{Book}
 use Rattle.spare_die.specs.declared.tally.Tally.{Tally}
-use Rattle.spare_die.specs.Table.{home, HasHomes, is_used, used_count}
+use Rattle.spare_die.specs.Table.{home, HasHomes, is_used}
 use Rattle.spare_die.specs.Book.{IsOrderly, IsCounted}
 use Rattle.spare_die.specs.Tallies.{SameButErases}
 use Rattle.spare_die.specs.Entering.{ErasesHome}

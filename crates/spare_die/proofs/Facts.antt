@@ -1,7 +1,7 @@
 -- What each step of a call leaves of what the die knows.
-use Rattle.std.proofs.Common.{◌≡◌, ◌≢◌, ◌⊎◌, inl, inr, ℕ, zero, suc, ◌+◌, ◌-◌, ◌*◌, ◌/◌, ◌<◌, ◌≤◌, Bool, true, false, not, List, length, refl, ap, ap₂, sym, ◌∙◌, arith, ◌||◌, nat_le, ⊎_elim}
+use Rattle.std.proofs.Common.{◌≡◌, ◌≢◌, inl, ℕ, ◌+◌, ◌-◌, ◌/◌, ◌<◌, ◌≤◌, true, false, not, length, refl, ap, ap₂, sym, ◌∙◌, arith, ◌||◌, nat_le, ⊎_elim}
 use Rattle.std.specs.List.{range_with_len, count_by}
-use Rattle.std.proofs.lemmas.Bool.{cases_Bool, cases_lt, false≢true}
+use Rattle.std.proofs.lemmas.Bool.{cases_Bool, false≢true}
 use Rattle.std.proofs.lemmas.List.Sums.{count_by-le-length}
 use Rattle.std.proofs.lemmas.List.FromFn.{length-range_with_len}
 use Rattle.cell_die.specs.declared.shape.Shape.{Shape}
@@ -10,11 +10,11 @@ use Rattle.cell_die.specs.Counts.{Rose, raised}
 use Rattle.cell_die.specs.DieState.{DieState, IsShaped, page_of, page_bytes}
 use Rattle.spare_die.specs.declared.book.Book.{Book}
 use Rattle.spare_die.specs.declared.tally.Tally.{Tally}
-use Rattle.spare_die.specs.Table.{home, HasHomes, is_named, is_named_up_to, is_used, is_gated, named_count, used_count, reserve_count}
+use Rattle.spare_die.specs.Table.{home, HasHomes, is_named, is_named_up_to, is_used, is_gated, reserve_count}
 use Rattle.spare_die.specs.SpareLaws.{home-same}
 use Rattle.spare_die.specs.Book.{IsOrderly, KeepsFacts, HasRows, IsOrderlyTable, IsBookOf, IsCounted, IsUsedUp}
 use Rattle.spare_die.proofs.Homes.{names_ungated, home_named}
-use Rattle.spare_die.proofs.Calls.{LeavesTable, homes_stay}
+use Rattle.spare_die.proofs.Calls.{homes_stay}
 use Rattle.spare_die.proofs.Counting.{count_same, count_same_range}
 
 -- the five facts follow from what the die knows

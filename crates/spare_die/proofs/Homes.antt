@@ -1,8 +1,8 @@
 -- Homes and names of the table after one of its pages changes.
-use Rattle.std.proofs.Common.{◌≡◌, ◌≢◌, ◌⊎◌, inl, inr, ℕ, zero, suc, ◌+◌, ◌<◌, ◌≤◌, Bool, true, false, List, refl, ap, ap₂, sym, ◌∙◌, arith, eqb, eq-eqb, if◌then◌else◌, ◌==◌, ◌&&◌, ◌||◌, ⊎_elim}
-use Rattle.std.proofs.lemmas.Bool.{cases_eq, cases_Bool, ne_eqb, and_parts, eqb-true}
+use Rattle.std.proofs.Common.{◌≡◌, ◌≢◌, ◌⊎◌, inl, inr, ℕ, zero, suc, ◌+◌, ◌<◌, Bool, true, false, List, refl, ap, ap₂, sym, ◌∙◌, arith, eq-eqb, if◌then◌else◌, ◌==◌, ◌&&◌, ◌||◌, ⊎_elim}
+use Rattle.std.proofs.lemmas.Bool.{cases_eq}
 use Rattle.cell_die.specs.DieState.{DieState, page_of}
-use Rattle.spare_die.specs.Table.{home, home_up_to, is_gated, is_entry_for, is_entry_of, inner_of, logical_of, is_named, is_named_up_to}
+use Rattle.spare_die.specs.Table.{home_up_to, is_gated, is_entry_for, is_entry_of, inner_of, logical_of, is_named_up_to}
 
 -- each page is as it was, or an entry neither before nor after
 abbrev pub SameEntries : DieState → DieState → ℕ → Type 0

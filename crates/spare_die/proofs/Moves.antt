@@ -1,20 +1,15 @@
 -- What an erase of a logical block leaves, step by step: its home is erased, and where that went bad, an entry moves the block.
-use Rattle.std.proofs.Common.{◌≡◌, ◌≢◌, ◌⊎◌, ℕ, ◌+◌, ◌*◌, ◌/◌, ◌%◌, ◌<◌, ◌≤◌, List, length, refl, ap, sym, ◌∙◌, arith, ⊎_elim}
+use Rattle.std.proofs.Common.{◌≡◌, ℕ, ◌+◌, ◌*◌, ◌/◌, ◌%◌, ◌<◌, ◌≤◌, length, ap, sym, ◌∙◌, arith}
 use Rattle.std.proofs.Math.Nat.{div-lt_iff_lt-mul}
 use Rattle.cell_die.specs.declared.shape.Shape.{Shape}
 use Rattle.cell_die.specs.Cells.{IsAbove, blank_page}
 use Rattle.cell_die.specs.DieState.{DieState, IsShaped, page_of, page_bytes}
-use Rattle.cell_die.specs.Changes.{OnlyBlock, IsErased, ErasedInPart}
-use Rattle.cell_die.specs.Calls.{Kept}
 use Rattle.cell_die.proofs.CellLaws.{above_blank}
-use Rattle.cell_die.proofs.Sequences.{kept_trans}
 use Rattle.spare_die.specs.Table.{home, HasHomes}
-use Rattle.spare_die.specs.Spare.{Own, spare_state, spare_place}
+use Rattle.spare_die.specs.Spare.{Own, spare_place}
 use Rattle.spare_die.specs.Tallies.{OwnLater, CountsUp, SameFaults, SameCounts}
 use Rattle.spare_die.specs.Entering.{Renews, ErasesHome, ReplacesHome, IsBlankBlock}
-use Rattle.spare_die.specs.SpareLaws.{home-same, place_block, place_inside, place_past_table, logical_inside}
-use Rattle.spare_die.proofs.Calls.{kept_spare}
-use Rattle.spare_die.proofs.Erases.{only_block_spare, is_erased_spare, in_part_spare, kept_erase}
+use Rattle.spare_die.specs.SpareLaws.{home-same, place_block, place_inside, place_past_table}
 use Rattle.spare_die.proofs.Erasing.{table_block}
 
 -- the home of a logical block was erased

@@ -1,17 +1,17 @@
 -- What a die knows that was opened.
-use Rattle.std.proofs.Common.{◌≡◌, ℕ, zero, ◌+◌, ◌-◌, ◌<◌, ◌≤◌, Bool, true, false, List, length, drop, refl, ap, ap₂, sym, subst, ◌∙◌, arith, get_or, ◌||◌, replicate}
-use Rattle.std.specs.Prelude.{nat_le, slice_index_or}
+use Rattle.std.proofs.Common.{◌≡◌, ℕ, ◌+◌, ◌-◌, ◌<◌, Bool, true, false, length, drop, refl, ap, sym, subst, ◌∙◌, arith, get_or, ◌||◌, replicate}
+use Rattle.std.specs.Prelude.{nat_le}
 use Rattle.std.specs.List.{range_with_len, count_by}
 use Rattle.std.proofs.lemmas.Bool.{false≢true, lt-leb}
 use Rattle.std.proofs.lemmas.List.{length-replicate, length-drop, get_or-drop}
 use Rattle.cell_die.specs.declared.shape.Shape.{Shape}
-use Rattle.cell_die.specs.DieState.{DieState, IsShaped, page_of}
+use Rattle.cell_die.specs.DieState.{DieState, IsShaped}
 use Rattle.spare_die.specs.declared.book.Book.{Book}
 use Rattle.spare_die.specs.declared.tally.Tally.{Tally}
 use Rattle.spare_die.specs.declared.opening.Opening.{Opening}
 use Rattle.spare_die.specs.Table.{home_up_to, is_named, is_named_up_to, is_used, named_count, used_count}
-use Rattle.spare_die.specs.Book.{IsOrderly, IsBookOf, IsOrderlyTable, IsCounted, HasRows}
-use Rattle.spare_die.specs.Opening.{FitsShape, SoundUpTo, SparesUpTo, IsSoundTable, IsFresh, IsFreshTally, StartsAt, OnlyReads, Told}
+use Rattle.spare_die.specs.Book.{IsOrderly, IsBookOf, IsCounted}
+use Rattle.spare_die.specs.Opening.{FitsShape, SparesUpTo, IsSoundTable, IsFresh, IsFreshTally, StartsAt, OnlyReads, Told}
 use Rattle.spare_die.proofs.Counting.{count_flags}
 use Rattle.spare_die.proofs.Facts.{LeavesFree, room_counted}
 use Rattle.spare_die.proofs.Pages.{orderly_passed}

@@ -1,5 +1,5 @@
 -- What a call of the inner die on the place of a logical page leaves.
-use Rattle.std.proofs.Common.{◌≡◌, ◌≢◌, ℕ, ◌+◌, ◌*◌, ◌/◌, ◌%◌, ◌^◌, ◌<◌, ◌≤◌, true, false, List, [], ◌∷◌, map, length, refl, ap, ap₂, sym, ◌∙◌, arith, ⊎_elim, Result, Ok, Err, OnOk, OnErr}
+use Rattle.std.proofs.Common.{◌≡◌, ℕ, ◌+◌, ◌*◌, ◌/◌, ◌^◌, ◌<◌, ◌≤◌, true, List, [], ◌∷◌, map, length, refl, ap, ap₂, sym, ◌∙◌, arith, Result, Ok, Err, OnOk, OnErr}
 use Rattle.std.specs.List.{range_with_len}
 use Rattle.std.proofs.Math.Nat.{mul-le-mul}
 use Rattle.cell_die.specs.declared.shape.Shape.{Shape}
@@ -11,7 +11,7 @@ use Rattle.cell_die.proofs.Single.{same_cells_never_fall}
 use Rattle.cell_die.proofs.CellLaws.{charge_above}
 use Rattle.spare_die.specs.declared.book.Book.{Book}
 use Rattle.spare_die.specs.declared.tally.Tally.{Tally}
-use Rattle.spare_die.specs.Table.{home, HasHomes, is_named}
+use Rattle.spare_die.specs.Table.{HasHomes}
 use Rattle.spare_die.specs.Spare.{Own, spare_state, spare_place}
 use Rattle.spare_die.specs.Tallies.{OwnLater}
 use Rattle.spare_die.specs.Book.{IsOrderly}

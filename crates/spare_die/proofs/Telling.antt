@@ -1,25 +1,21 @@
 -- What a table page adds to what the table tells, and what the whole table tells.
-use Rattle.std.proofs.Common.{◌≡◌, ◌≢◌, ◌⊎◌, inl, inr, ℕ, zero, suc, ◌+◌, ◌-◌, ◌/◌, ◌<◌, ◌≤◌, min, Bool, true, false, not, List, [], ◌∷◌, length, refl, ap, ap₂, sym, subst, ◌∙◌, arith, add-one, ⊎_elim, ◌==◌, ◌&&◌, ◌||◌, eq-eqb, set, get_or, get_or-set_same, get_or-set_other, if◌then◌else◌, Result, Ok, Err, OnOk, OnErr, IfErr}
+use Rattle.std.proofs.Common.{◌≡◌, ◌⊎◌, inl, inr, ℕ, zero, suc, ◌+◌, ◌/◌, ◌<◌, ◌≤◌, min, Bool, true, false, not, List, length, refl, ap, ap₂, sym, subst, ◌∙◌, arith, add-one, ⊎_elim, ◌==◌, ◌&&◌, ◌||◌, eq-eqb, set, get_or, get_or-set_same, get_or-set_other, if◌then◌else◌, Result, Ok, Err, OnOk, OnErr, IfErr}
 use Rattle.std.specs.Prelude.{nat_le, slice_index_or}
 use Rattle.std.proofs.lemmas.Bool.{cases_Bool, cases_eq, cases_lt, false≢true, or_parts, and_parts, eqb-true, leb-false, ne_eqb, lt-leb}
 use Rattle.std.proofs.lemmas.List.{length-set, get_or_past}
 use Rattle.cell_die.specs.declared.shape.Shape.{Shape}
 use Rattle.cell_die.specs.Cells.{is_blank, page_at, blank_page}
-use Rattle.cell_die.specs.Counts.{Rose}
 use Rattle.cell_die.specs.DieState.{DieState, page_of, page_bytes}
 use Rattle.cell_die.specs.Changes.{SameCells}
 use Rattle.cell_die.specs.Calls.{Kept, Passed, ReadFailed}
 use Rattle.spare_die.specs.declared.error.OpenError.{OpenError}
 use Rattle.spare_die.specs.declared.error.OpenError.TheVariants.{OutOfMemory, Shape as WrongShape, DieFault, Table}
 use Rattle.spare_die.specs.SpareLaws.{home_up_to-same}
-use Rattle.spare_die.specs.declared.book.Book.{Book}
 use Rattle.spare_die.specs.declared.opening.Opening.{Opening}
-use Rattle.spare_die.specs.Table.{home, home_up_to, HasHomes, is_named, is_named_up_to, is_used, is_gated, is_entry_for, is_entry_of, logical_of, inner_of}
-use Rattle.spare_die.specs.Book.{HasRows, IsBookOf}
+use Rattle.spare_die.specs.Table.{home_up_to, HasHomes, is_named, is_named_up_to, is_used, is_gated, is_entry_for, is_entry_of, logical_of, inner_of}
 use Rattle.spare_die.specs.Opening.{OpenCause, OnlyReads, FitsShape, SoundUpTo, IsSoundTable, IsAdmitted, NotesPage, IsWrongEntry, Told}
 use Rattle.spare_die.proofs.Homes.{named_by, names_ungated}
 use Rattle.spare_die.proofs.Entries.{home_of_entry, home_of_other}
-use Rattle.spare_die.proofs.Written.{gated_used}
 use Rattle.spare_die.proofs.Pages.{same_changes}
 
 -- a name has an entry

@@ -1,24 +1,22 @@
 -- What an entry that is written on the lowest-numbered blank table page leaves of what the die knows.
-use Rattle.std.proofs.Common.{◌≡◌, ◌≢◌, ◌⊎◌, inl, inr, ℕ, suc, ◌+◌, ◌-◌, ◌*◌, ◌/◌, ◌^◌, ◌<◌, ◌≤◌, Bool, true, false, not, List, [], ◌∷◌, length, refl, ap, ap₂, sym, ◌∙◌, arith, ⊎_elim, ◌==◌, ◌||◌, eq-eqb, set, get_or, get_or-set_same, get_or-set_other}
-use Rattle.std.specs.Prelude.{nat_le, slice_index_or}
+use Rattle.std.proofs.Common.{◌≡◌, ◌≢◌, ◌⊎◌, inl, inr, ℕ, ◌+◌, ◌-◌, ◌/◌, ◌<◌, ◌≤◌, Bool, true, false, not, List, [], ◌∷◌, length, refl, ap, ap₂, sym, ◌∙◌, arith, ⊎_elim, ◌==◌, ◌||◌, eq-eqb, set, get_or, get_or-set_same, get_or-set_other}
+use Rattle.std.specs.Prelude.{nat_le}
 use Rattle.std.specs.List.{range_with_len, count_by}
 use Rattle.std.proofs.Math.Nat.{div-lt_iff_lt-mul}
 use Rattle.std.proofs.lemmas.Bool.{cases_Bool, cases_eq, cases_lt, false≢true, or_parts, and_parts, eqb-true, leb-false, ne_eqb}
 use Rattle.std.proofs.lemmas.List.{length-set}
 use Rattle.cell_die.specs.declared.shape.Shape.{Shape}
-use Rattle.cell_die.specs.Cells.{IsAbove, is_blank, blank_page, charge, is_charged}
-use Rattle.cell_die.specs.Counts.{Rose, raised}
+use Rattle.cell_die.specs.Cells.{is_blank, blank_page}
 use Rattle.cell_die.specs.DieState.{DieState, IsShaped, page_of, page_bytes, page_count}
 use Rattle.cell_die.specs.Changes.{OnlyPage}
-use Rattle.cell_die.proofs.CellLaws.{above_blank, no_charge}
 use Rattle.spare_die.specs.declared.book.Book.{Book}
 use Rattle.spare_die.specs.declared.tally.Tally.{Tally}
-use Rattle.spare_die.specs.Table.{home, home_up_to, HasHomes, is_named, is_named_up_to, is_used, is_gated, named_count, used_count, entry_page, logical_of, inner_of}
-use Rattle.spare_die.specs.Book.{IsOrderly, HasRows, IsOrderlyTable, IsBookOf, IsCounted, IsUsedUp}
-use Rattle.spare_die.specs.Entering.{IsEntry, IsLowest, ReplacesHome, IsBlankBlock}
+use Rattle.spare_die.specs.Table.{home, home_up_to, HasHomes, is_named, is_named_up_to, is_used, is_gated, named_count, used_count}
+use Rattle.spare_die.specs.Book.{IsOrderly, HasRows, IsOrderlyTable, IsBookOf, IsCounted}
+use Rattle.spare_die.specs.Entering.{IsEntry, IsLowest, IsBlankBlock}
 use Rattle.spare_die.proofs.Counting.{count_one_more}
-use Rattle.spare_die.proofs.Homes.{SameEntries, homes_ungated, named_after}
-use Rattle.spare_die.proofs.Entries.{MovesHome, homes_after, blank_not_gated, entry_gated, entry_logical, entry_inner}
+use Rattle.spare_die.proofs.Homes.{homes_ungated, named_after}
+use Rattle.spare_die.proofs.Entries.{MovesHome, homes_after, blank_not_gated}
 use Rattle.spare_die.proofs.Facts.{place_not_free, room_counted}
 use Rattle.spare_die.proofs.Erasing.{table_block}
 

@@ -1,5 +1,5 @@
 -- What a die that replaces bad blocks knows of its inner die, and the facts that it keeps.
-use Rattle.std.specs.Prelude.{◌≡◌, ℕ, ◌+◌, ◌/◌, ◌<◌, ◌≤◌, Bool, true, false, List, ◌||◌, length, nat_le, slice_index, slice_index_or}
+use Rattle.std.specs.Prelude.{◌≡◌, ℕ, ◌+◌, ◌/◌, ◌<◌, ◌≤◌, true, false, ◌||◌, length, nat_le, slice_index, slice_index_or}
 use Rattle.cell_die.specs.Counts.{Rose}
 use Rattle.cell_die.specs.Cells.{is_blank, blank_page}
 use Rattle.cell_die.specs.DieState.{DieState, page_of, page_bytes}

@@ -1,5 +1,5 @@
 -- When a die can be opened, and what its table tells so far.
-use Rattle.std.specs.Prelude.{◌≡◌, ◌≢◌, ℕ, ◌+◌, ◌<◌, ◌≤◌, ◌||◌, Bool, true, false, not, min, List, length, drop, count_by, replicate, nat_le, slice_index, slice_index_or, slice_set, if◌then◌else◌, ⊤}
+use Rattle.std.specs.Prelude.{◌≡◌, ◌≢◌, ℕ, ◌+◌, ◌<◌, ◌≤◌, ◌||◌, Bool, true, false, not, min, List, length, drop, count_by, replicate, nat_le, slice_index, slice_index_or, slice_set, if◌then◌else◌}
 use Rattle.cell_die.specs.declared.shape.Shape.{Shape}
 use Rattle.cell_die.specs.Cells.{is_blank}
 use Rattle.cell_die.specs.Counts.{Rose}

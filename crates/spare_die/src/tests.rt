@@ -167,14 +167,15 @@ fn refusal(
     alloc: Global,
     shape: Shape,
     logical: u32,
-    pages: [[u8; 10]; 3],
+    table: [[u8; 10]; 2],
+    spare: &[u8],
 ) -> Result<Option<OpenError>, Fail> {
-    let [first, second, spare] = pages;
+    let [first, second] = table;
     let mut cells = Vec::new(alloc);
     cells.extend_from_slice(&first)?;
     cells.extend_from_slice(&second)?;
     cells.extend_from_slice(&[0; 50])?;
-    cells.extend_from_slice(&spare)?;
+    cells.extend_from_slice(spare)?;
     cells.extend_from_slice(&[0; 20])?;
     let worn = WornMem::new(alloc, MemDie::of_cells(alloc, shape, cells)?, 0)?;
     match open(alloc, worn, logical) {
@@ -191,10 +192,10 @@ fn a_die_without_room_is_refused_by_its_shape(rt: HostRuntime) -> Result<(), Fai
         spare_bytes: 2,
         ..SHAPE
     };
-    assert_eq!(rt; refusal(rt.alloc(), SHAPE, 1, [BLANK; 3])?, shape);
-    assert_eq!(rt; refusal(rt.alloc(), SHAPE, 4, [BLANK; 3])?, None);
-    assert_eq!(rt; refusal(rt.alloc(), SHAPE, 5, [BLANK; 3])?, shape);
-    assert_eq!(rt; refusal(rt.alloc(), short, 2, [BLANK; 3])?, shape);
+    assert_eq!(rt; refusal(rt.alloc(), SHAPE, 1, [BLANK; 2], &BLANK)?, shape);
+    assert_eq!(rt; refusal(rt.alloc(), SHAPE, 4, [BLANK; 2], &BLANK)?, None);
+    assert_eq!(rt; refusal(rt.alloc(), SHAPE, 5, [BLANK; 2], &BLANK)?, shape);
+    assert_eq!(rt; refusal(rt.alloc(), short, 2, [BLANK; 2], &BLANK)?, shape);
     Ok(())
 }
 
@@ -214,7 +215,10 @@ fn a_die_is_refused_by_its_table_where_an_entry_cannot_stand_there(
         (gated(0, 3), gated(1, 3), table),
         (BLANK, gated(0, 3), table),
     ] {
-        assert_eq!(rt; refusal(rt.alloc(), SHAPE, 2, [first, second, BLANK])?, why);
+        assert_eq!(rt;
+            refusal(rt.alloc(), SHAPE, 2, [first, second], &BLANK)?,
+            why
+        );
     }
     Ok(())
 }
@@ -223,11 +227,11 @@ fn a_die_is_refused_by_its_table_where_an_entry_cannot_stand_there(
 fn a_reserve_block_that_no_entry_names_is_blank(rt: HostRuntime) -> Result<(), Fail> {
     let mark = [1; 10];
     assert_eq!(rt;
-        refusal(rt.alloc(), SHAPE, 2, [BLANK, BLANK, mark])?,
+        refusal(rt.alloc(), SHAPE, 2, [BLANK; 2], &mark)?,
         Some(OpenError::Table)
     );
     assert_eq!(rt;
-        refusal(rt.alloc(), SHAPE, 2, [gated(1, 3), BLANK, mark])?,
+        refusal(rt.alloc(), SHAPE, 2, [gated(1, 3), BLANK], &mark)?,
         None
     );
     Ok(())

@@ -1,10 +1,8 @@
 -- Each page of the block is read, up to one that is not blank.
-use Rattle.std.proofs.Common.{◌≡◌, ◌≢◌, ◌*◌, ◌/◌, ◌+◌, ◌<◌, ◌≤◌, ℕ, zero, suc, ◌-◌, refl, List, true, false, ap, sym, ◌∙◌, arith, length, ⊎_elim}
+use Rattle.std.proofs.Common.{◌≡◌, ◌*◌, ◌/◌, ◌+◌, ◌<◌, ◌≤◌, ℕ, zero, suc, ◌-◌, refl, true, ap, sym, ◌∙◌, arith, length, ⊎_elim}
 use Rattle.std.proofs.lemmas.Bool.{cases_eq, false≢true}
-use Rattle.std.proofs.Math.Nat.{mul-le-mul_right}
 use Rattle.cell_die.specs.Cells.{is_blank, blank_page}
-use Rattle.cell_die.specs.DieState.{page_of, page_bytes, page_count, IsShaped}
-use Rattle.spare_die.specs.Opening.{OnlyReads}
+use Rattle.cell_die.specs.DieState.{page_of, page_bytes}
 use Rattle.spare_die.proofs.Written.{blank_row}
 use Rattle.spare_die.proofs.Telling.{reads_trans, read_only, page_same, inside_read}
 use Rattle.std.proofs.lemmas.Nat.{div-mul-add}

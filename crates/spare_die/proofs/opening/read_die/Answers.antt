@@ -1,9 +1,8 @@
 -- The table is told, then the reserve is read; reads leave both as they were.
-use Rattle.std.proofs.Common.{◌≡◌, ℕ, ap, sym, subst, ◌∙◌, refl, true, rules}
+use Rattle.std.proofs.Common.{sym, subst, refl, rules}
 use Rattle.std.proofs.lemmas.Result.{err_from_is_err_and}
 use Rattle.cell_die.specs.declared.shape.Shape.{Shape}
-use Rattle.cell_die.specs.DieState.{DieState}
-use Rattle.spare_die.specs.Opening.{FitsShape, IsFresh, Told}
+use Rattle.spare_die.specs.Opening.{FitsShape, IsFresh}
 use Rattle.spare_die.proofs.Telling.{cause_after, inside_back, sound_table_read}
 use Rattle.spare_die.proofs.Opens.{told_none, told_whole, book_told, sound_told, orderly_told, orderly_opened, starts}
 use Rattle.spare_die.proofs.opening.read_die.Goals as goal

@@ -1,5 +1,5 @@
 -- A page more is told, or it is wrong.
-use Rattle.std.proofs.Common.{◌≡◌, List, ℕ, subst}
+use Rattle.std.proofs.Common.{List, ℕ, subst}
 use Rattle.std.proofs.lemmas.Result.{on_ok_weaker}
 use Rattle.spare_die.specs.Opening.{NotesPage, IsWrongEntry}
 use Rattle.spare_die.proofs.Telling.{told_more, wrong_entry, wrong_cause}

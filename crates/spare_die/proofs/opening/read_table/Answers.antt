@@ -1,5 +1,5 @@
 -- Reads leave what the pages before told.
-use Rattle.std.proofs.Common.{◌∙◌, length}
+use Rattle.std.proofs.Common.{◌∙◌}
 use Rattle.std.proofs.lemmas.Result.{err_from_is_err_and}
 use Rattle.spare_die.proofs.Telling.{told_read, reads_trans, cause_after, inside_read, inside_back}
 use Rattle.spare_die.proofs.opening.read_table.Goals as goal

@@ -1,5 +1,5 @@
 -- While the gate is not charged the page holds a part of the entry.
-use Rattle.std.proofs.Common.{◌≡◌, ◌⊎◌, ◌<◌, ◌≤◌, ◌^◌, ℕ, List, Result, Ok, Err, OnOk, OnErr, inl, inr, ap, sym, ◌∙◌, length, ⊎_elim, arith, false, ◌==◌}
+use Rattle.std.proofs.Common.{◌≡◌, ◌≤◌, ℕ, List, Result, Ok, Err, OnErr, inl, inr, ap, ◌∙◌, length, ⊎_elim, arith, false, ◌==◌}
 use Rattle.std.proofs.lemmas.Result.{on_ok_weaker, on_err_weaker}
 use Rattle.cell_die.specs.Cells.{IsAbove, charge, blank_page}
 use Rattle.cell_die.specs.DieState.{page_of, page_bytes}

@@ -1,8 +1,8 @@
 -- The home is erased, and the table stays.
-use Rattle.std.proofs.Common.{◌≡◌, ap, sym, ◌∙◌, arith, refl, Ok}
+use Rattle.std.proofs.Common.{ap, sym, ◌∙◌, Ok}
 use Rattle.cell_die.specs.DieState.{page_bytes}
 use Rattle.spare_die.proofs.Facts.{keeps_facts}
-use Rattle.spare_die.proofs.Erasing.{HomeCall, erases_clean, erases_part, erases_any, orderly_clean, orderly_bad, bad_counted, orderly_erase_failed}
+use Rattle.spare_die.proofs.Erasing.{HomeCall, erases_clean, erases_any, orderly_clean, orderly_bad, bad_counted, orderly_erase_failed}
 use Rattle.spare_die.proofs.spare.SpareDie.erase_home.Goals as goal
 
 pub invariant_of-self : goal.invariant_of-self

@@ -1,5 +1,5 @@
 -- The book is true to the inner die while no change call failed.
-use Rattle.std.proofs.Common.{◌≡◌, true, ◌<◌, length, sym, ◌∙◌, arith}
+use Rattle.std.proofs.Common.{◌<◌, length, sym, ◌∙◌, arith}
 use Rattle.std.proofs.lemmas.List.{get_or_read}
 use Rattle.std.proofs.lemmas.Bool.{false≢true}
 use Rattle.spare_die.proofs.spare.SpareDie.home.Goals as goal

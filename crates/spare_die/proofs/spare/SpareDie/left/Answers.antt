@@ -1,5 +1,5 @@
 -- Not more reserve blocks were named than there are.
-use Rattle.std.proofs.Common.{◌≡◌, ◌+◌, ◌-◌, ◌≤◌, ap, arith}
+use Rattle.std.proofs.Common.{ap, arith}
 use Rattle.cell_die.specs.declared.shape.Shape.{Shape}
 use Rattle.spare_die.proofs.spare.SpareDie.left.Goals as goal
 

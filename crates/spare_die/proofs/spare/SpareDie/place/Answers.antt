@@ -1,5 +1,5 @@
 -- The page keeps its place within the home of its block.
-use Rattle.std.proofs.Common.{◌≡◌, ◌+◌, ◌*◌, ◌/◌, ◌%◌, ◌<◌, ◌≤◌, ◌^◌, arith, ℕ}
+use Rattle.std.proofs.Common.{◌+◌, ◌*◌, ◌/◌, ◌%◌, ◌<◌, ◌^◌, arith, ℕ}
 use Rattle.cell_die.specs.DieState.{DieState, IsShaped}
 use Rattle.spare_die.specs.Table.{home, HasHomes}
 use Rattle.spare_die.specs.SpareLaws.{logical_inside}

@@ -1,8 +1,7 @@
 -- The cell is charged at the place of its page.
-use Rattle.std.proofs.Common.{◌≡◌, inl, inr, ap, sym, ◌∙◌, refl, ⊎_elim}
-use Rattle.cell_die.specs.Cells.{IsAbove, charge}
+use Rattle.std.proofs.Common.{inl, inr, ap, sym, ◌∙◌, refl, ⊎_elim}
+use Rattle.cell_die.specs.Cells.{charge}
 use Rattle.cell_die.specs.DieState.{page_bytes, page_of}
-use Rattle.spare_die.specs.Spare.{spare_state}
 use Rattle.spare_die.specs.Tallies.{own_of}
 use Rattle.spare_die.proofs.Facts.{keeps_facts}
 use Rattle.spare_die.proofs.Pages.{PageCall, page_free, page_then, page_now, only_page_call, kept_call, charge_call, place_in_die, orderly_passed, orderly_failed, later_same}

@@ -1,5 +1,5 @@
 -- The home of the block is erased, and where that went bad the block is moved to a blank reserve block.
-use Rattle.std.proofs.Common.{◌≡◌, ◌⊎◌, inl, inr, Result, Ok, Err, OnErr, ap, sym, ◌∙◌, refl, ⊎_elim}
+use Rattle.std.proofs.Common.{inr, Result, Ok, Err, OnErr, ap, ◌∙◌, ⊎_elim}
 use Rattle.std.proofs.lemmas.Result.{on_ok_weaker, on_err_weaker}
 use Rattle.cell_die.proofs.Sequences.{kept_trans}
 use Rattle.spare_die.specs.Table.{home}

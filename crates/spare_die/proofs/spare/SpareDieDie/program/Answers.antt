@@ -1,12 +1,9 @@
 -- The page is programmed at its place.
-use Rattle.std.proofs.Common.{◌≡◌, inl, inr, ap, sym, ◌∙◌, refl, ⊎_elim}
-use Rattle.cell_die.specs.Cells.{IsAbove, charge}
-use Rattle.cell_die.specs.DieState.{page_bytes, page_of}
-use Rattle.spare_die.specs.Spare.{spare_state}
+use Rattle.std.proofs.Common.{ap, sym, ◌∙◌, refl}
+use Rattle.cell_die.specs.DieState.{page_bytes}
 use Rattle.spare_die.specs.Tallies.{own_of}
 use Rattle.spare_die.proofs.Facts.{keeps_facts}
-use Rattle.spare_die.proofs.Pages.{PageCall, page_free, page_then, page_now, only_page_call, kept_call, charge_call, place_in_die, orderly_passed, orderly_failed, later_same, page_read}
-use Rattle.cell_bits.proofs.Above.{above_refl}
+use Rattle.spare_die.proofs.Pages.{PageCall, page_free, page_then, page_now, only_page_call, kept_call, place_in_die, orderly_passed, orderly_failed, later_same, page_read}
 use Rattle.spare_die.proofs.spare.SpareDieDie.program.Goals as goal
 
 pub program-requires-clause-page : goal.program-requires-clause-page

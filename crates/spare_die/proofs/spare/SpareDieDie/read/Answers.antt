@@ -1,8 +1,6 @@
 -- The page is read at its place, and no cell changes.
-use Rattle.std.proofs.Common.{◌≡◌, inl, inr, ap, sym, ◌∙◌, refl, ⊎_elim}
-use Rattle.cell_die.specs.Cells.{IsAbove, charge}
-use Rattle.cell_die.specs.DieState.{page_bytes, page_of}
-use Rattle.spare_die.specs.Spare.{spare_state}
+use Rattle.std.proofs.Common.{ap, sym, ◌∙◌, refl}
+use Rattle.cell_die.specs.DieState.{page_bytes}
 use Rattle.spare_die.specs.Tallies.{own_of}
 use Rattle.spare_die.proofs.Facts.{keeps_facts}
 use Rattle.spare_die.proofs.Pages.{read_leaves, read_free, same_cells_read, kept_read, page_read, same_changes, place_in_die, orderly_passed, later_same}
