@@ -1,16 +1,17 @@
 -- What a call of the inner die that leaves the table as it was leaves of the die: each logical page goes with the page at its
 -- place, and no logical block moves.
-use Rattle.std.proofs.Common.{◌≡◌, ◌≢◌, ◌⊎◌, inl, inr, ℕ, ◌+◌, ◌*◌, ◌/◌, ◌%◌, ◌<◌, ◌≤◌, List, [], refl, ap, ap₂, sym, subst, ◌∙◌, arith, ◌∷◌, ◌++◌, ⊎_elim}
-use Rattle.std.proofs.lemmas.Bool.{cases_lt, cases_eq}
+use Rattle.std.proofs.Common.{◌≡◌, ℕ, ◌+◌, ◌*◌, ◌/◌, ◌%◌, ◌<◌, ◌≤◌, List, [], refl, ap, sym, ◌∙◌, arith, ◌∷◌, ◌++◌, ⊎_elim}
+use Rattle.std.proofs.lemmas.Bool.{cases_lt}
 use Rattle.cell_die.specs.declared.shape.Shape.{Shape}
 use Rattle.cell_die.specs.Cells.{IsAbove}
-use Rattle.cell_die.specs.DieState.{DieState, IsShaped, page_of, page_count, block_of, erases_of}
-use Rattle.cell_die.specs.Changes.{SameCells, OnlyPage, NeverFalls}
+use Rattle.cell_die.specs.DieState.{DieState, IsShaped, page_of}
+use Rattle.cell_die.specs.Changes.{OnlyPage, NeverFalls}
 use Rattle.cell_die.specs.Calls.{Kept}
 use Rattle.cell_die.proofs.Single.{page_above_never_falls}
 use Rattle.spare_die.specs.Table.{home, HasHomes}
 use Rattle.spare_die.specs.Spare.{Own, spare_state, spare_place, spare_shape}
-use Rattle.spare_die.specs.SpareLaws.{home-same, place_inside, place_past_table, place_apart, page_of-spare, page_of-spare_past, logical_inside}
+use Rattle.spare_die.specs.Tallies.{OwnLater}
+use Rattle.spare_die.specs.SpareLaws.{home-same, place_past_table, place_apart, page_of-spare, page_of-spare_past}
 
 -- a call of the inner die that leaves the table and the erase counts as they were
 pub record LeavesTable (inner new : DieState) (logical : ℕ) : Type 0 where
@@ -58,13 +59,6 @@ pages_along {inner} {new} {logical} R own own' leaves none page some = ⊎_elim
     (λ past. let past' : logical * new.shape.pages ≤ page = rw leaves.shape past in
     rw (page_of-spare_past inner logical own page past, page_of-spare_past new logical own' page past') none)
     (cases_lt page (logical * inner.shape.pages))
-
--- what the die counts for itself may only rise
-pub record OwnLater (old new : Own) : Type 0 where
-  pub named : new.named_at_opening ≡ old.named_at_opening
-  pub pages : new.pages_at_opening ≡ old.pages_at_opening
-  pub read_faults : old.read_faults ≤ new.read_faults
-  pub change_faults : old.change_faults ≤ new.change_faults
 
 pub only_page_spare : {inner new : DieState} {logical : ℕ} (own own' : Own) (page : ℕ) → LeavesTable inner new logical → own'.erases ≡ own.erases
     → page < logical * inner.shape.pages → OnlyPage (spare_place inner page) inner new → OnlyPage page (spare_state inner logical own) (spare_state new logical own')

@@ -1,14 +1,17 @@
 -- An entry that is written on the lowest-numbered blank table page moves one logical block, and moves it only with its gate.
-use Rattle.std.proofs.Common.{◌≡◌, ◌≢◌, ℕ, zero, suc, ◌+◌, ◌-◌, ◌<◌, ◌≤◌, ◌^◌, Bool, true, false, List, ◌++◌, length, replicate, refl, ap, ap₂, sym, ◌∙◌, arith, add-suc, add-zero, eq-eqb}
-use Rattle.std.specs.Prelude.{if◌then◌else◌, ◌==◌, ◌&&◌}
+use Rattle.std.proofs.Common.{◌≡◌, ◌≢◌, ℕ, zero, suc, ◌+◌, ◌-◌, ◌<◌, ◌≤◌, ◌^◌, Bool, true, false, List, ◌++◌, length, replicate, ap, ap₂, sym, ◌∙◌, arith, add-suc, add-zero, eq-eqb, ⊎_elim}
+use Rattle.std.specs.Prelude.{if◌then◌else◌, ◌==◌, ◌&&◌, slice_index}
 use Rattle.std.specs.Int.{w32, to_le_bytes}
-use Rattle.std.proofs.lemmas.Bool.{ne_eqb}
+use Rattle.std.proofs.lemmas.Bool.{ne_eqb, eqb-true, cases_Bool, false≢true}
+use Rattle.std.proofs.lemmas.Nat.Bits.{bit_at-lt}
+use Rattle.cell_die.specs.Changes.{IsBetween}
 use Rattle.std.proofs.lemmas.List.{length-replicate}
 use Rattle.std.proofs.lemmas.Nat.{from_le_bytes-to_le_bytes_4}
 use Rattle.cell_die.specs.Cells.{charge_at, charge, blank_page}
 use Rattle.cell_die.specs.DieState.{DieState, page_of}
 use Rattle.cell_die.proofs.CellLaws.{no_charge}
 use Rattle.spare_die.specs.Table.{home_up_to, is_gated, is_entry_for, logical_of, inner_of, entry_page}
+use Rattle.spare_die.specs.Entering.{IsEntry}
 use Rattle.spare_die.specs.SpareLaws.{home_up_to-same}
 
 -- a blank page is no entry
@@ -99,3 +102,22 @@ pub entry_inner : (logical inner bytes : ℕ) → 9 ≤ bytes → inner < 2 ^ 32
 entry_inner logical inner bytes room fits =
     ap (λ rest. inner_of (charge (to_le_bytes w32 logical ++ to_le_bytes w32 inner ++ replicate rest 0) 64)) (one_byte_more bytes room)
     ∙ from_le_bytes-to_le_bytes_4 inner fits
+
+-- cells below those of a page without a charged gate have none either
+pub between_ungated : (old new target : List ℕ) → IsBetween old new target → is_gated target ≡ false → is_gated new ≡ false
+between_ungated old new target between none = ⊎_elim
+    (λ gated. absurd (let low : charge_at new 64 ≤ charge_at target 64 = between.below.charged 64 in
+    let one : charge_at new 64 ≡ 1 = eqb-true (charge_at new 64) 1 gated in
+    let most : charge_at target 64 < 2 = bit_at-lt (slice_index target 8) 0 in
+    let is : charge_at target 64 ≡ 1 = omega arith in
+    false≢true (sym none ∙ eq-eqb (charge_at target 64) 1 is)))
+    (λ free. free)
+    (cases_Bool (is_gated new))
+
+-- the page of an entry, with its gate charged
+pub entry_is : (page : List ℕ) (block named bytes : ℕ) → 9 ≤ bytes → block < 2 ^ 32 → named < 2 ^ 32 → page ≡ charge (entry_page block named bytes) 64 → IsEntry page block named
+entry_is page block named bytes room fits fits' is = record {
+  gated = ap is_gated is ∙ entry_gated block named bytes room;
+  logical = ap logical_of is ∙ entry_logical block named bytes room fits;
+  inner = ap inner_of is ∙ entry_inner block named bytes room fits';
+}

@@ -1,34 +1,20 @@
 -- What an erase leaves, however it ends: the inner block of its logical block and the table may change, and no other logical
 -- block moves or changes.
-use Rattle.std.proofs.Common.{◌≡◌, ◌≢◌, ℕ, ◌+◌, ◌*◌, ◌/◌, ◌%◌, ◌<◌, ◌≤◌, List, [], refl, ap, ap₂, sym, ◌∙◌, arith, ⊎_elim}
-use Rattle.std.specs.Prelude.{slice_index}
+use Rattle.std.proofs.Common.{◌≡◌, ◌≢◌, ℕ, ◌+◌, ◌*◌, ◌/◌, ◌%◌, ◌<◌, ◌≤◌, ap, sym, ◌∙◌, arith, ⊎_elim}
 use Rattle.std.proofs.lemmas.Bool.{cases_lt}
 use Rattle.std.proofs.Math.Nat.{div-lt_iff_lt-mul}
 use Rattle.cell_die.specs.declared.shape.Shape.{Shape}
 use Rattle.cell_die.specs.Cells.{IsAbove, blank_page}
-use Rattle.cell_die.specs.Counts.{raised}
-use Rattle.cell_die.specs.DieState.{DieState, IsShaped, page_of, page_bytes, block_of, erases_of}
+use Rattle.cell_die.specs.DieState.{DieState, page_of, page_bytes}
 use Rattle.cell_die.specs.Changes.{OnlyBlock, IsErased, ErasedInPart}
 use Rattle.cell_die.specs.Calls.{Kept}
 use Rattle.cell_die.proofs.Single.{block_rose_never_falls}
-use Rattle.spare_die.specs.Table.{home, HasHomes}
+use Rattle.spare_die.specs.Table.{home}
 use Rattle.spare_die.specs.Spare.{Own, spare_state, spare_place}
 use Rattle.spare_die.specs.SpareLaws.{place_block, place_past_table, page_of-spare, page_of-spare_past, logical_inside}
-use Rattle.spare_die.proofs.Calls.{OwnLater, kept_spare}
-
--- an erase of a logical block
-pub record Renews (inner new : DieState) (logical block : ℕ) : Type 0 where
-  pub shaped : IsShaped inner
-  pub homes : HasHomes inner logical
-  pub shape : new.shape ≡ inner.shape
-  pub inside : block < logical
-  pub others : (other : ℕ) → other ≢ block → home new other ≡ home inner other
-  pub pages : (page : ℕ) → inner.shape.pages ≤ page → page / inner.shape.pages ≢ home inner block → page_of new page ≡ page_of inner page
-
--- the erase counts but for this block's
-pub record CountsUp (block : ℕ) (old new : Own) : Type 0 where
-  pub here : slice_index new.erases block ≡ raised (slice_index old.erases block)
-  pub others : (other : ℕ) → other ≢ block → slice_index new.erases other ≡ slice_index old.erases other
+use Rattle.spare_die.specs.Tallies.{OwnLater, CountsUp}
+use Rattle.spare_die.specs.Entering.{Renews}
+use Rattle.spare_die.proofs.Calls.{kept_spare}
 
 -- the place of a page of another block stays
 place_of_other : {inner new : DieState} {logical block : ℕ} (page : ℕ) → Renews inner new logical block → page / inner.shape.pages ≢ block → spare_place new page ≡ spare_place inner page
@@ -85,6 +71,6 @@ in_part_spare {inner} {new} {logical} {block} own own' renews counts below_old =
 }
 
 pub kept_erase : {inner new : DieState} {logical block : ℕ} (own own' : Own) → Renews inner new logical block → CountsUp block own own' → OwnLater own own' → Kept inner new
-    → slice_index own.erases block ≤ slice_index own'.erases block → Kept (spare_state inner logical own) (spare_state new logical own')
-kept_erase {inner} {new} {logical} {block} own own' renews counts later kept higher =
-    kept_spare own own' kept later (block_rose_never_falls block (only_block_spare own own' renews counts) (omega (arith, counts.here)) higher)
+    → Kept (spare_state inner logical own) (spare_state new logical own')
+kept_erase {inner} {new} {logical} {block} own own' renews counts later kept =
+    kept_spare own own' kept later (block_rose_never_falls block (only_block_spare own own' renews counts) (omega (arith, counts.here)) counts.higher)

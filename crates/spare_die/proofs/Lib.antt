@@ -1,3 +1,12 @@
+pub mod Counting
+pub mod Homes
 pub mod Calls
 pub mod Entries
 pub mod Erases
+pub mod Facts
+pub mod Pages
+pub mod Erasing
+pub mod Written
+pub mod Moves
+pub mod Telling
+pub mod Opens

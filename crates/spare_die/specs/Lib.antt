@@ -1,3 +1,7 @@
 pub mod Table
 pub mod Spare
 pub mod SpareLaws
+pub mod Book
+pub mod Tallies
+pub mod Entering
+pub mod Opening

@@ -1,7 +1,8 @@
 -- The table of bad blocks: the pages of the inner block 0, each of which may name a reserve block in place of a logical block.
-use Rattle.std.specs.Prelude.{◌≡◌, ℕ, zero, suc, ◌+◌, ◌-◌, ◌<◌, ◌++◌, replicate, ◌≤◌, ◌==◌, ◌&&◌, List, Bool, take, drop, if◌then◌else◌}
+use Rattle.std.specs.Prelude.{◌≡◌, ℕ, zero, suc, ◌+◌, ◌-◌, ◌<◌, ◌++◌, replicate, ◌≤◌, ◌==◌, ◌&&◌, List, Bool, true, false, take, drop, not, count_by, if◌then◌else◌}
+use Rattle.std.specs.List.{range_with_len}
 use Rattle.std.specs.Int.{w32, from_le_bytes, to_le_bytes}
-use Rattle.cell_die.specs.Cells.{is_charged}
+use Rattle.cell_die.specs.Cells.{is_charged, is_blank}
 use Rattle.cell_die.specs.DieState.{DieState, page_of}
 
 -- a table page is an entry where its gate, cell 64, is charged
@@ -32,6 +33,35 @@ home_up_to inner block (suc count) = if is_entry_for block (page_of inner count)
 -- the inner block of a logical block, by all table pages
 abbrev pub home : DieState → ℕ → ℕ
 home inner block = home_up_to inner block inner.shape.pages
+
+-- whether the page is an entry that names this inner block
+abbrev pub is_entry_of : ℕ → List ℕ → Bool
+is_entry_of block page = is_gated page && (inner_of page == block)
+
+-- whether one of the first so many table pages is an entry that names this inner block
+unfoldable pub is_named_up_to : DieState → ℕ → ℕ → Bool
+is_named_up_to inner block zero = false
+is_named_up_to inner block (suc count) = if is_entry_of block (page_of inner count) then true else is_named_up_to inner block count
+
+-- whether an entry of the table names this inner block
+abbrev pub is_named : DieState → ℕ → Bool
+is_named inner block = is_named_up_to inner block inner.shape.pages
+
+-- whether a table page has a charged cell
+abbrev pub is_used : DieState → ℕ → Bool
+is_used inner page = not (is_blank (page_of inner page))
+
+-- how many reserve blocks there are
+abbrev pub reserve_count : DieState → ℕ → ℕ
+reserve_count inner logical = inner.shape.blocks - (1 + logical)
+
+-- how many reserve blocks entries name
+abbrev pub named_count : DieState → ℕ → ℕ
+named_count inner logical = count_by (is_named inner) (range_with_len (1 + logical) (inner.shape.blocks - (1 + logical)))
+
+-- how many table pages have a charged cell
+abbrev pub used_count : DieState → ℕ
+used_count inner = count_by (is_used inner) (range_with_len 0 inner.shape.pages)
 
 -- the logical blocks have inner blocks of their own, none of which is the table
 pub record HasHomes (inner : DieState) (logical : ℕ) : Type 0 where
