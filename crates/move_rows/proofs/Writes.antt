@@ -1,18 +1,26 @@
 -- A sector on the next page of the Active block, by the laws of the record effect.
-use Rattle.std.proofs.Common.{◌≡◌, ℕ, ◌+◌, ◌*◌, ◌/◌, ◌^◌, ◌<◌, ◌≤◌, true, List, length, drop, slice_set, Option, Some, refl, sym, ap, ◌∙◌, arith, subst, length-set}
+use Rattle.std.proofs.Common.{◌≡◌, inl, inr, ℕ, zero, suc, [], ◌∷◌, None, replicate, slice_index, slice_index_or, ◌+◌, ◌*◌, ◌/◌, ◌^◌, ◌<◌, ◌≤◌, true, List, length, drop, slice_set, Option, Some, refl, sym, ap, ◌∙◌, arith, subst, length-set}
 use Rattle.zero_count.specs.declared.Header.{Header}
 use Rattle.zero_count.specs.HeaderWord.{IsHeader}
 use Rattle.cell_die.specs.declared.shape.Shape.{Shape}
-use Rattle.cell_die.specs.Cells.{page_at}
-use Rattle.cell_die.specs.DieState.{DieState, IsShaped}
+use Rattle.std.proofs.lemmas.Bool.{cases_lt}
+use Rattle.std.proofs.lemmas.List.{get_or_past}
+use Rattle.cell_die.specs.Cells.{page_at, is_blank}
+use Rattle.cell_die.specs.DieState.{DieState, IsShaped, page_bytes, page_count as page_count_of}
+use Rattle.mem_die.specs.MemState.{IsNew}
 use Rattle.cell_die.specs.Calls.{Kept}
 use Rattle.striped.specs.Meaning.{Meaning}
 use Rattle.spare_gate.specs.Slots.{is_gate_charged}
 use Rattle.sector_map.specs.declared.entry.Entry.{Entry}
 use Rattle.sector_map.specs.declared.entry.Entry.TheVariants.{Held}
 use Rattle.sector_map.specs.Entry.{entry_at}
-use Rattle.block_state.specs.declared.state.State.TheVariants.{Active}
-use Rattle.block_state.specs.Book.{BookValue, state_at}
+use Rattle.block_state.specs.declared.state.State.{State}
+use Rattle.block_state.specs.declared.state.State.TheVariants.{Clean, Active, Spare}
+use Rattle.block_state.specs.State.{is_spare}
+use Rattle.block_state.specs.Book.{BookValue, IsValid, state_at}
+use Rattle.block_state.proofs.Spare.{one_spare_of_three}
+use Rattle.page_codec.proofs.PutFirst.{blank_zeros}
+use Rattle.collector.proofs.Starts.{MayBegin, blank_true}
 use Rattle.page_codec.specs.Geometry.{Geometry, page_count}
 use Rattle.page_codec.specs.Puts.{Puts, first_slot, is_gated}
 use Rattle.page_codec.specs.Sizes.{Sizes, Serves, ServesScheme}
@@ -78,3 +86,35 @@ module _ (sizes : Sizes) (meaning : Meaning) (die : DieState) (book : BookValue)
 
         gate_is : next_gate (geometry_of die.shape meaning (length table)) block fill new.cells ≡ is_gated new (first_slot page)
         gate_is = λ i. is_gate_charged (drop ((sym (ap (λ (s : Shape). s.main_bytes) kept.shape)) i) (page_at new.cells (sym at_page i))) 0
+
+-- ---- the beginning
+
+-- no cell of a new die is charged, and past its last page there is none
+pub new_blank : (shape : Shape) (die : DieState) → IsNew shape die → IsShaped die → (page : ℕ) → is_blank (page_at die.cells page) ≡ true
+new_blank shape die new shaped page = elim (cases_lt page (shape.blocks * shape.pages)) [
+  | inl within ↦ ap is_blank (new.blank page within) ∙ blank_zeros (page_bytes shape)
+  | inr past ↦ ap is_blank (get_or_past die.cells page [] (subst (λ (n : ℕ). n ≤ page) (sym (shaped.pages ∙ ap page_count_of new.same_shape)) past))
+]
+
+no_live : (b : ℕ) → slice_index (0 ∷ 0 ∷ 0 ∷ []) b ≡ 0
+no_live zero = refl
+no_live (suc zero) = refl
+no_live (suc (suc zero)) = refl
+no_live (suc (suc (suc n))) = refl
+
+-- block 0 is Active, and block 2 the Spare
+pub begun : (g : Geometry) (cells : List (List ℕ)) (book : BookValue) → IsValid book → book.states ≡ (Active 0 ∷ Clean ∷ Spare true ∷ []) → book.live ≡ (0 ∷ 0 ∷ 0 ∷ []) → book.pages ≡ 2 → book.units ≡ 2 → book.generations ≡ 2
+    → g.blocks ≡ 3 → g.pages ≡ 2 → g.span ≡ 1 → g.generations ≡ 2 → ((page : ℕ) → is_blank (page_at cells page) ≡ true) → IsTrue g cells book (replicate g.sectors None) 1
+begun g cells book valid states live pages units' generations blocks g_pages g_span g_generations blank =
+    blank_true g cells blank book valid
+    (record { blocks = ap (length {A = State}) states ∙ sym blocks; pages = pages ∙ sym g_pages; units = units' ∙ sym (λ i. g_pages i / g_span i); generations = generations ∙ sym g_generations })
+    (one_spare_of_three book (ap (length {A = State}) states) (ap (λ (s : List State). is_spare (slice_index_or s 0 Clean)) states) (ap (λ (s : List State). is_spare (slice_index_or s 1 Clean)) states) (ap (λ (s : List State). is_spare (slice_index_or s 2 Clean)) states))
+    (omega (arith, g_pages))
+    (λ b. ap (λ (xs : List ℕ). slice_index xs b) live ∙ no_live b)
+    (λ b within. subst (λ (s : List State). MayBegin g cells blank (slice_index_or s b Clean)) (sym states) (may b (omega (arith, blocks))))
+  where
+    may : (b : ℕ) → b < 3 → MayBegin g cells blank (slice_index_or (Active 0 ∷ Clean ∷ Spare true ∷ []) b Clean)
+    may zero h = refl
+    may (suc zero) h = tt
+    may (suc (suc zero)) h = tt
+    may (suc (suc (suc n))) h = absurd (omega arith)
