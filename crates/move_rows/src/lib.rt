@@ -3,3 +3,5 @@
 #![tactic(auto)]
 
 mod fixture;
+#[cfg(test)]
+mod moves;
