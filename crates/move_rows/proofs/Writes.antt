@@ -118,3 +118,12 @@ begun g cells book valid states live pages units' generations blocks g_pages g_s
     may (suc zero) h = tt
     may (suc (suc zero)) h = tt
     may (suc (suc (suc n))) h = absurd (omega arith)
+
+-- a map without entries, beside such a book
+pub begun_at : (g : Geometry) (cells : List (List ℕ)) (book : BookValue) (table : List (Option Entry)) → g.blocks ≡ 3 → g.pages ≡ 2 → g.span ≡ 1 → g.generations ≡ 2 → g.sectors ≡ length table → table ≡ replicate 2 None
+    → ((page : ℕ) → is_blank (page_at cells page) ≡ true)
+    → ((h : Geometry) (rows : List (List ℕ)) → h.blocks ≡ 3 → h.pages ≡ 2 → h.span ≡ 1 → h.generations ≡ 2 → ((page : ℕ) → is_blank (page_at rows page) ≡ true) → IsTrue h rows book (replicate h.sectors None) 1)
+    → IsTrue g cells book table 1
+begun_at g cells book table blocks pages span generations sectors map blank new =
+    let long : g.sectors ≡ 2 = sectors ∙ ap (length {A = Option Entry}) map in
+    subst (λ (t : List (Option Entry)). IsTrue g cells book t 1) (ap (λ (n : ℕ). replicate n None) long ∙ sym map) (new g cells blocks pages span generations blank)
