@@ -1,7 +1,6 @@
 -- A sector on the next page of the Active block, by the laws of the record effect.
 use Rattle.std.proofs.Common.{◌≡◌, inl, inr, ℕ, zero, suc, [], ◌∷◌, None, replicate, slice_index, slice_index_or, ◌+◌, ◌*◌, ◌/◌, ◌^◌, ◌<◌, ◌≤◌, true, List, length, drop, slice_set, Option, Some, refl, sym, ap, ◌∙◌, arith, subst, length-set}
 use Rattle.zero_count.specs.declared.Header.{Header}
-use Rattle.zero_count.specs.HeaderWord.{IsHeader}
 use Rattle.cell_die.specs.declared.shape.Shape.{Shape}
 use Rattle.std.proofs.lemmas.Bool.{cases_lt}
 use Rattle.std.proofs.lemmas.List.{get_or_past}
@@ -21,7 +20,7 @@ use Rattle.block_state.specs.Book.{BookValue, IsValid, state_at}
 use Rattle.block_state.proofs.Spare.{one_spare_of_three}
 use Rattle.page_codec.proofs.PutFirst.{blank_zeros}
 use Rattle.collector.proofs.Starts.{MayBegin, blank_true}
-use Rattle.page_codec.specs.Geometry.{Geometry, page_count}
+use Rattle.page_codec.specs.Geometry.{Geometry}
 use Rattle.page_codec.specs.Puts.{Puts, first_slot, is_gated}
 use Rattle.page_codec.specs.Sizes.{Sizes, Serves, ServesScheme}
 use Rattle.page_codec.specs.TrueBook.{IsTrue, IsTrueState, IsTrueActive}
@@ -30,7 +29,7 @@ use Rattle.collector.specs.Effects.{after_record, block_in, former_in}
 use Rattle.collector.proofs.Books.{active_within}
 use Rattle.collector.proofs.Fresh.{next_put}
 use Rattle.collector.proofs.Moving.{geometry_shape}
-use Rattle.collector.proofs.NextPage.{PutsNext, next_page, next_gate, next_page_within}
+use Rattle.collector.proofs.NextPage.{PutsNext, next_gate, next_page_within}
 use Rattle.collector.proofs.Recorded.{MayRecord, next_may_record, next_recorded}
 
 -- the header of a first write
