@@ -21,7 +21,7 @@ use Rattle.page_codec.specs.Geometry.{Geometry, block_of, shape_of, spare_at}
 use Rattle.page_codec.specs.Records.{header_in, is_copy, live_record}
 use Rattle.page_codec.specs.Sound.{IsSound, live_count, stands_in}
 use Rattle.page_codec.specs.Puts.{Puts, first_slot}
-use Rattle.page_codec.specs.Promises.{HoldsRecord}
+use Rattle.page_codec.specs.Promises.{HoldsRecord, IsFresh}
 use Rattle.page_codec.specs.TrueBook.{IsTrue, IsTrueState, IsTrueActive, IsNextSeq}
 use Rattle.page_codec.proofs.PutLaws.{PutsCells, header_after, put_keeps_headers, put_keeps_seqs, put_keeps_bound, put_keeps_live, put_wins}
 use Rattle.page_codec.proofs.PutPads.{put_keeps_pads}
@@ -32,17 +32,13 @@ use Rattle.collector.proofs.Books.{active_within, spare_within}
 use Rattle.collector.proofs.NextPage.{PutsNext, next_page, next_page_within, block_of_next, gate_before, holds_record}
 use Rattle.collector.proofs.Tables.{free_stays}
 
--- the header's seq is greater than that of every valid header
-abbrev pub IsFreshIn : Geometry → List (List ℕ) → Header → Type 0
-IsFreshIn g cells h = (place : Place) (k : Header) → header_in g cells place ≡ Some k → k.seq < h.seq
-
 -- a record that is no copy is put in a slot whose gate was not charged
 pub record PutsRecord (g : Geometry) (place : Place) (h : Header) (old new : List (List ℕ)) : Type 0 where
   pub put : PutsCells g place h old new
   pub holds : HoldsRecord g place h
   pub single : is_copy h ≡ false
   pub gate : is_gate_charged (spare_at g old place.page) place.slot ≡ false
-  pub fresh : IsFreshIn g old h
+  pub fresh : IsFresh g old h
 
 -- the next seq is greater than that of every valid header, where it is not the greatest number
 pub fresh_seqs : (g : Geometry) (cells : List (List ℕ)) (seq : ℕ) → IsNextSeq g cells seq → seq < 2 ^ 62 → (place : Place) (k : Header) → header_in g cells place ≡ Some k → k.seq < seq
@@ -65,7 +61,7 @@ free_after g place h old new p block apart free = free_stays g old new block (λ
     at sector stands (inr uncharged) = put_keeps_live g place h old new p.put p.gate uncharged sector
 
 -- Sound cells stay sound, where some block has no live record afterwards.
-pub put_keeps_sound : (g : Geometry) (place : Place) (h : Header) (old new : List (List ℕ)) → PutsCells g place h old new → IsHeader h → IsFreshIn g old h → h.seq < 2 ^ 62 + 2 ^ 20
+pub put_keeps_sound : (g : Geometry) (place : Place) (h : Header) (old new : List (List ℕ)) → PutsCells g place h old new → IsHeader h → IsFresh g old h → h.seq < 2 ^ 62 + 2 ^ 20
     → (block : ℕ) × (block < g.blocks) × (live_count g new block ≡ 0) → IsSound g old → IsSound g new
 put_keeps_sound g place h old new p header fresh small free sound = record {
   below_valid = put_keeps_headers g place h old new p header sound.below_valid;
@@ -75,7 +71,7 @@ put_keeps_sound g place h old new p header fresh small free sound = record {
 }
 
 -- what a put of the seq that was drawn keeps
-pub put_holds : (g : Geometry) (place : Place) (h : Header) (old new : Store) → PutsCells g place h old.die.cells new.die.cells → IsHeader h → IsFreshIn g old.die.cells h → Kept old.die new.die
+pub put_holds : (g : Geometry) (place : Place) (h : Header) (old new : Store) → PutsCells g place h old.die.cells new.die.cells → IsHeader h → IsFresh g old.die.cells h → Kept old.die new.die
     → h.seq ≡ old.seq → new.seq ≡ old.seq + 1 → old.seq < 2 ^ 62 + 2 ^ 20 → (block : ℕ) × (block < g.blocks) × (live_count g new.die.cells block ≡ 0) → Holds g old new
 put_holds g place h old new p header fresh kept drawn next small free = record {
   kept = kept;
