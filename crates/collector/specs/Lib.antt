@@ -2,3 +2,4 @@ pub mod Effects
 pub mod Store
 pub mod Moves
 pub mod Collections
+pub mod Inside

@@ -3,8 +3,5 @@
 //! It knows the rules of collections and of idle moves, and nothing of offers or of whole commands.
 #![tactic(auto)]
 
-mod effect;
-mod idle;
+mod collect;
 
-pub use effect::record_effect;
-pub use idle::move_one;
