@@ -4,16 +4,18 @@ use Rattle.std.specs.List.{range_with_len}
 use Rattle.zero_count.specs.declared.Header.{Header}
 use Rattle.cell_die.specs.Cells.{page_at, is_blank}
 use Rattle.cell_die.specs.DieState.{DieState}
+use Rattle.cell_die.specs.Changes.{IsErased, OnlyBlock}
+use Rattle.cell_die.specs.Calls.{Kept, Passed}
 use Rattle.striped.specs.Meaning.{Decoding}
 use Rattle.spare_gate.specs.Slots.{is_gate_charged, is_slot_blank}
 use Rattle.block_state.specs.declared.state.State.TheVariants.{Spare}
-use Rattle.block_state.specs.Book.{BookValue, IsClosed, NoneActive, state_at, live_at}
+use Rattle.block_state.specs.Book.{BookValue, IsClosed, NoneActive, state_at, live_at, with_state}
 use Rattle.page_codec.specs.declared.place.Place.{Place}
 use Rattle.page_codec.specs.Geometry.{Geometry, block_of, shape_of, spare_at}
 use Rattle.page_codec.specs.Records.{Placed, header_in, record_in, is_sealed, live_record}
 use Rattle.page_codec.specs.Sectors.{said_by}
 use Rattle.collector.specs.Store.{Store, IsTrueStore, Holds}
-use Rattle.collector.specs.Collections.{Marks, copy_of, get_reads, nth}
+use Rattle.collector.specs.Collections.{copy_of, get_reads, nth}
 
 -- the number of a slot within its block, by page and then by slot
 abbrev pub number_of : Geometry → Place → ℕ
@@ -51,6 +53,12 @@ pub record IsCopied (g : Geometry) (d : Decoding) (old new : List (List ℕ)) (s
   pub says : said_by g d new (Some (copy_of g spare seq placed i)) ≡ said_by g d old (Some placed)
   pub further : (slot : ℕ) → 1 ≤ slot → slot < g.generations → is_slot_blank (spare_at g new (spare * g.pages + i)) slot ≡ true
 
+-- the spare was made blank: it was known to be, or it was erased
+pub data MadeBlank (spare : ℕ) (old : DieState) (book : BookValue) : DieState → BookValue → Type 0 where
+  was_blank : state_at book spare ≡ Spare true → MadeBlank spare old book old book
+  was_erased : (new : DieState) → state_at book spare ≡ Spare false → IsErased spare old new → OnlyBlock spare old new → Kept old new → Passed 1 0 old new
+      → MadeBlank spare old book new (with_state book spare (Spare true))
+
 -- What stands in the cells while a spare takes the copies of these records.
 pub record Taking (g : Geometry) (d : Decoding) (spare seq : ℕ) (old new : List (List ℕ)) (records : List Placed) : Type 0 where
   -- every block but the spare has the cells that it had before
@@ -69,7 +77,8 @@ pub record Taking (g : Geometry) (d : Decoding) (spare seq : ℕ) (old new : Lis
 pub record Inside (g : Geometry) (d : Decoding) (spare : ℕ) (start now : Store) (records : List Placed) : Type 0 where
   pub taking : Taking g d spare start.seq start.die.cells now.die.cells records
   pub table : now.table ≡ start.table
-  pub book : Marks start.book spare now.book
+  -- the spare is not known to be blank from just before the first copy on
+  pub book : ((now.book ≡ start.book) × (length records ≡ 0)) ⊎ (now.book ≡ with_state start.book spare (Spare false))
   pub seq : now.seq ≡ start.seq + length records
   pub holds : Holds g start now
 
