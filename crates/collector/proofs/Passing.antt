@@ -63,7 +63,7 @@ module _ (g : Geometry) (cells : List (List ℕ)) (one : 1 ≤ g.generations) wh
 
 -- ---- one record more
 
-length_push : (records : List Placed) (x : Placed) → length (records ++ x ∷ []) ≡ length records + 1
+pub length_push : (records : List Placed) (x : Placed) → length (records ++ x ∷ []) ≡ length records + 1
 length_push records x = omega (arith, length-append records (x ∷ []))
 
 pub nth_front : (records : List Placed) (x : Placed) (i : ℕ) → i < length records → nth (records ++ x ∷ []) i ≡ nth records i
