@@ -32,7 +32,7 @@ use Rattle.page_codec.proofs.PutFirst.{blank_zeros}
 use Rattle.page_codec.proofs.SoundErase.{TearsBlock, tear_keeps_live, tear_keeps_sound, tear_keeps_stored}
 use Rattle.page_codec.proofs.Within.{header_valid, header_within}
 use Rattle.collector.specs.Store.{Store, store, IsTrueStore, SameRows, DrewSeqs, Holds}
-use Rattle.collector.specs.Inside.{MadeBlank, was_blank, was_erased}
+use Rattle.collector.specs.Steps.{MadeBlank, was_blank, was_erased}
 use Rattle.collector.proofs.BlankPages.{blank_header}
 use Rattle.collector.proofs.Books.{state_here}
 use Rattle.collector.proofs.Committed.{committed_so}

@@ -4,8 +4,7 @@ use Rattle.std.specs.List.{range_with_len}
 use Rattle.zero_count.specs.declared.Header.{Header}
 use Rattle.cell_die.specs.Cells.{page_at, is_blank}
 use Rattle.cell_die.specs.DieState.{DieState}
-use Rattle.cell_die.specs.Changes.{IsErased, OnlyBlock}
-use Rattle.cell_die.specs.Calls.{Kept, Passed}
+use Rattle.cell_die.specs.Calls.{Passed}
 use Rattle.striped.specs.Meaning.{Decoding}
 use Rattle.spare_gate.specs.Slots.{is_gate_charged, is_slot_blank}
 use Rattle.block_state.specs.declared.state.State.TheVariants.{Spare}
@@ -52,12 +51,6 @@ pub record IsCopied (g : Geometry) (d : Decoding) (old new : List (List ℕ)) (s
   pub gated : is_gate_charged (spare_at g new (spare * g.pages + i)) 0 ≡ true
   pub says : said_by g d new (Some (copy_of g spare seq placed i)) ≡ said_by g d old (Some placed)
   pub further : (slot : ℕ) → 1 ≤ slot → slot < g.generations → is_slot_blank (spare_at g new (spare * g.pages + i)) slot ≡ true
-
--- the spare was made blank: it was known to be, or it was erased
-pub data MadeBlank (spare : ℕ) (old : DieState) (book : BookValue) : DieState → BookValue → Type 0 where
-  was_blank : state_at book spare ≡ Spare true → MadeBlank spare old book old book
-  was_erased : (new : DieState) → state_at book spare ≡ Spare false → IsErased spare old new → OnlyBlock spare old new → Kept old new → Passed 1 0 old new
-      → MadeBlank spare old book new (with_state book spare (Spare true))
 
 -- What stands in the cells while a spare takes the copies of these records.
 pub record Taking (g : Geometry) (d : Decoding) (spare seq : ℕ) (old new : List (List ℕ)) (records : List Placed) : Type 0 where

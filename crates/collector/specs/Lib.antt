@@ -2,4 +2,5 @@ pub mod Effects
 pub mod Store
 pub mod Moves
 pub mod Collections
+pub mod Steps
 pub mod Inside

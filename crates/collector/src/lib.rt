@@ -3,5 +3,10 @@
 //! It knows the rules of collections and of idle moves, and nothing of offers or of whole commands.
 #![tactic(auto)]
 
+mod blank;
 mod collect;
+mod copy;
+mod moves;
+mod seal;
 
+pub use moves::Moves;
