@@ -34,6 +34,10 @@ copy_reads meaning place header = if says_zeros header then 0 else reads_of mean
 abbrev pub DecodesTo : Meaning → DieState → Place → Header → ℕ → (ℕ → List ℕ) → Type 0
 DecodesTo meaning die place header page done = says_zeros header ≡ false → meaning.decoding.first (take meaning.page_bytes (done page)) ≡ decoded_at meaning die place
 
+-- the page decodes to this sector
+abbrev pub DecodesInto : Meaning → ℕ → List ℕ → (ℕ → List ℕ) → Type 0
+DecodesInto meaning page sector done = meaning.decoding.first (take meaning.page_bytes (done page)) ≡ sector
+
 -- A number was drawn for a header, which was put on a page. From then on the spare is not known to be blank.
 pub record PutsDrawn (Content : (ℕ → List ℕ) → Type 0) (spare page : ℕ) (header : Header) (old : DieState) (book : BookValue) (seq : ℕ) (new : DieState) (after : BookValue) (next : ℕ) : Type 0 where
   pub put : Puts Content 1 (first_slot page) header old new

@@ -1,14 +1,15 @@
 //! A copy of one record: its sector, or zeros, on a page of the Spare, with a header of kind 2 or 4. Such a record does not
 //! count before the seal of its block.
-ghost use Rattle.std.specs.Prelude.{◌≡◌, ◌+◌, ◌<◌, ◌≤◌, ◌^◌, true, false};
+ghost use Rattle.std.specs.Prelude.{◌≡◌, ◌+◌, ◌<◌, ◌≤◌, ◌^◌, true, false, length, OnOk, OnErr};
 ghost use Rattle.cell_die.specs.Cells.{is_blank};
 ghost use Rattle.cell_die.specs.DieState.{page_count, page_of};
-ghost use Rattle.cell_die.specs.Calls.{Kept};
+ghost use Rattle.cell_die.specs.Calls.{Kept, Passed, ChangeFailed};
 ghost use Rattle.block_state.specs.Book.{IsSpare, with_state};
 ghost use Rattle.page_codec.specs.Sectors.{says_zeros};
 ghost use Rattle.page_codec.specs.Sizes.{Serves, ServesScheme};
 ghost use Rattle.page_codec.specs.Units.{reads_of};
-ghost use Rattle.collector.specs.Steps.{CopyEnds};
+ghost use Rattle.collector.specs.Steps.{CopyEnds, DecodesInto, PutsDrawn};
+ghost use Rattle.page_codec.specs.Puts.{first_slot, is_gated};
 ghost use Rattle.striped.specs.Meaning.{Meaning};
 ghost use Rattle.page_codec.specs.declared.place.Place.{Place};
 
@@ -73,6 +74,38 @@ fn copy_zeros<D: Die>(
     }
 }
 
+/// Puts a copy of a sector.
+fn put_bytes<D: Die, C: Scheme>(
+    die: &mut D,
+    scheme: &mut C,
+    work: &mut Work,
+    book: &mut Book,
+    seq: &mut u64,
+    spare: u32,
+    page: u32,
+    number: u32,
+    sector: &[u8],
+) -> Result<(), DieFault>
+    requires die { Serves work.old (D.state die.old).shape }
+    requires scheme { ServesScheme work.old (C.meaning scheme.old) }
+    requires page { page < page_count (D.state die.old).shape }
+    requires blank { is_blank (page_of (D.state die.old) page) ≡ true }
+    requires is_spare { IsSpare book.old spare }
+    requires fresh { seq.old + 1 < 2 ^ 64 }
+    requires sector { length sector.now ≡ (C.meaning scheme.old).sector_bytes }
+    ensures puts { PutsDrawn (DecodesInto (C.meaning scheme.old) page sector.now) spare page (record { sector = number; seq = seq.old; kind = 2 })
+        (D.state die.old) book.old seq.old (D.state die.new) book.new seq.new }
+    ensures gated { OnOk result (is_gated (D.state die.new) (first_slot page) ≡ true) }
+    ensures kept { Kept (D.state die.old) (D.state die.new) }
+    ensures passed { OnOk result (Passed 2 0 (D.state die.old) (D.state die.new)) }
+    ensures failed { OnErr result (ChangeFailed 2 0 (D.state die.old) (D.state die.new)) }
+    ensures same_scheme { C.meaning scheme.new ≡ C.meaning scheme.old }
+    ensures same_work { work.new ≡ work.old }
+{
+    let copy = draw(book, seq, spare, number, 2);
+    put_first(die, scheme, work, page, &copy, sector)
+}
+
 /// Copies a record of bytes.
 fn copy_bytes<D: Die, C: Scheme>(
     die: &mut D,
@@ -104,8 +137,17 @@ fn copy_bytes<D: Die, C: Scheme>(
     if get(die, scheme, work, place, sector).is_err() {
         return Err(PutFault::Read);
     }
-    let copy = draw(book, seq, spare, header.sector, 2);
-    match put_first(die, scheme, work, page, &copy, sector) {
+    match put_bytes(
+        die,
+        scheme,
+        work,
+        book,
+        seq,
+        spare,
+        page,
+        header.sector,
+        sector,
+    ) {
         Ok(()) => Ok(()),
         Err(DieFault) => Err(PutFault::Change),
     }
