@@ -1,5 +1,5 @@
 -- Facts inside a collection: what holds before its first copy, between two copies and after the last one.
-use Rattle.std.specs.Prelude.{◌≡◌, ◌≢◌, ◌⊎◌, ℕ, ◌+◌, ◌*◌, ◌%◌, ◌<◌, ◌≤◌, ◌==◌, nat_lt, ◌&&◌, ◌^◌, Bool, true, false, List, length, if◌then◌else◌, count_by, sum_by, Option, Some, None}
+use Rattle.std.specs.Prelude.{◌≡◌, ◌≢◌, ◌⊎◌, ℕ, ◌+◌, ◌*◌, ◌%◌, ◌<◌, ◌≤◌, ◌==◌, nat_lt, ◌&&◌, ◌^◌, Bool, true, false, List, length, slice_index_or, if◌then◌else◌, count_by, sum_by, Option, Some, None}
 use Rattle.std.specs.List.{range_with_len}
 use Rattle.zero_count.specs.declared.Header.{Header}
 use Rattle.cell_die.specs.Cells.{page_at, is_blank}
@@ -12,9 +12,10 @@ use Rattle.block_state.specs.Book.{BookValue, IsClosed, NoneActive, state_at, li
 use Rattle.page_codec.specs.declared.place.Place.{Place}
 use Rattle.page_codec.specs.Geometry.{Geometry, block_of, shape_of, spare_at}
 use Rattle.page_codec.specs.Records.{Placed, header_in, record_in, is_sealed, live_record}
-use Rattle.page_codec.specs.Sectors.{said_by}
+use Rattle.page_codec.specs.Sectors.{said_by, says_zeros}
 use Rattle.collector.specs.Store.{Store, IsTrueStore, Holds}
-use Rattle.collector.specs.Collections.{copy_of, get_reads, nth}
+use Rattle.collector.specs.Collections.{CollectReadFailed, CollectChangeFailed, copy_of, get_reads, nth}
+use Rattle.collector.specs.declared.moves.Move.{Move}
 
 -- the number of a slot within its block, by page and then by slot
 abbrev pub number_of : Geometry → Place → ℕ
@@ -74,6 +75,32 @@ pub record Inside (g : Geometry) (d : Decoding) (spare : ℕ) (start now : Store
   pub book : ((now.book ≡ start.book) × (length records ≡ 0)) ⊎ (now.book ≡ with_state start.book spare (Spare false))
   pub seq : now.seq ≡ start.seq + length records
   pub holds : Holds g start now
+
+-- what is kept of a record that was copied
+abbrev pub move_of : Placed → Move
+move_of placed = record { sector = placed.header.sector; zeros = says_zeros placed.header }
+
+abbrev pub no_move : Move
+no_move = record { sector = 0; zeros = false }
+
+-- A collection has scanned the victim's slots up to a cursor, on so many pages, and copied the live records that it met.
+pub record Reached (g : Geometry) (d : Decoding) (victim spare : ℕ) (start now : Store) (cursor pages copies : ℕ) (moves : List Move) : Type 0 where
+  pub records : List Placed
+  pub inside : Inside g d spare start now records
+  pub scanned : Scanned g start.die.cells victim cursor records
+  pub copied : copies ≡ length records
+  pub moved : (i : ℕ) → i < length records → slice_index_or moves i no_move ≡ move_of (nth records i)
+  pub passed : Passed (2 * copies) (pages + passed_gets g start.die.cells victim cursor) start.die now.die
+
+-- It stopped at a read that failed.
+pub record ReadStopped (g : Geometry) (d : Decoding) (victim spare : ℕ) (start now : Store) : Type 0 where
+  pub holds : Holds g start now
+  pub failed : CollectReadFailed g d victim spare start now
+
+-- It stopped at a change call that failed.
+pub record ChangeStopped (g : Geometry) (d : Decoding) (victim spare : ℕ) (start now : Store) : Type 0 where
+  pub holds : Holds g start now
+  pub failed : CollectChangeFailed g d victim spare start now
 
 -- What a collection begins with, once its spare is blank.
 pub record Begun (g : Geometry) (victim spare : ℕ) (start : Store) : Type 0 where
