@@ -159,7 +159,7 @@ clears_whole g old new block shape erased only = record {
   blank = λ page here. ap is_blank (erased.blank page (same_block g old page shape ∙ here)) ∙ blank_zeros (page_bytes old.shape);
 }
 
-holds_same : (g : Geometry) (now : Store) → Holds g now now
+pub holds_same : (g : Geometry) (now : Store) → Holds g now now
 holds_same g now = record { kept = kept_refl now.die; pads = λ x. x; sound = λ x. x; seqs = omega arith; drew = λ _ place h e. inl e }
 
 -- A Spare that is blank, or was erased.
