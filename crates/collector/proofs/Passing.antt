@@ -39,20 +39,25 @@ same_number a b s t w i j e = elim (cases_lt a b) [
 ]
 
 -- a page by its block and its place in it
-page_is : (g : Geometry) (page block : ℕ) → block_of g page ≡ block → page ≡ block * g.pages + page % g.pages
+pub page_is : (g : Geometry) (page block : ℕ) → block_of g page ≡ block → page ≡ block * g.pages + page % g.pages
 page_is g page block e = sym (div-add-mod' page g.pages) ∙ ap (λ (z : ℕ). z * g.pages + page % g.pages) e
 
+-- of the slots of a block, those with one number are one
+pub place_apart : (g : Geometry) (block : ℕ) (p q : Place) → p.slot < g.generations → q.slot < g.generations → block_of g p.page ≡ block → block_of g q.page ≡ block → number_of g p ≡ number_of g q → p ≡ q
+place_apart g block p q in_p in_q here there same =
+    let parts = same_number _ _ _ _ g.generations in_p in_q same in
+    let page : p.page ≡ q.page = page_is g p.page block here ∙ (ap (λ (z : ℕ). block * g.pages + z) parts.0 ∙ sym (page_is g q.page block there)) in
+    λ i. record { page = page i; slot = parts.1 i }
+
 module _ (g : Geometry) (cells : List (List ℕ)) (one : 1 ≤ g.generations) where
-  slot_in : (sector : ℕ) (x : Placed) → live_record g cells sector ≡ Some x → x.place.slot < g.generations
+  pub slot_in : (sector : ℕ) (x : Placed) → live_record g cells sector ≡ Some x → x.place.slot < g.generations
   slot_in sector x e = (holds_within g x.place one (live_so g cells sector x e).so.holds).1
 
   -- of live records of a block, those with one number are one
   pub number_apart : (block s t : ℕ) (x y : Placed) → live_record g cells s ≡ Some x → live_record g cells t ≡ Some y → block_of g x.place.page ≡ block → block_of g y.place.page ≡ block
       → number_of g x.place ≡ number_of g y.place → x ≡ y
   number_apart block s t x y e f in_x in_y same =
-      let p = same_number _ _ _ _ g.generations (slot_in s x e) (slot_in t y f) same in
-      let page : x.place.page ≡ y.place.page = page_is g x.place.page block in_x ∙ (ap (λ (z : ℕ). block * g.pages + z) p.0 ∙ sym (page_is g y.place.page block in_y)) in
-      live_apart g cells s t x y e f (λ i. record { page = page i; slot = p.1 i })
+      live_apart g cells s t x y e f (place_apart g block x.place y.place (slot_in s x e) (slot_in t y f) in_x in_y same)
 
   before_from : (block s t : ℕ) (x y : Placed) → live_record g cells s ≡ Some x → live_record g cells t ≡ Some y → block_of g x.place.page ≡ block → block_of g y.place.page ≡ block
       → number_of g x.place < number_of g y.place → ComesBefore x.place y.place

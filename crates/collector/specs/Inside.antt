@@ -9,6 +9,8 @@ use Rattle.striped.specs.Meaning.{Decoding}
 use Rattle.spare_gate.specs.Slots.{is_gate_charged, is_slot_blank}
 use Rattle.block_state.specs.declared.state.State.TheVariants.{Spare}
 use Rattle.block_state.specs.Book.{BookValue, IsClosed, NoneActive, state_at, live_at, with_state}
+use Rattle.sector_map.specs.declared.entry.Entry.{Entry}
+use Rattle.sector_map.specs.Entry.{place_of}
 use Rattle.page_codec.specs.declared.place.Place.{Place}
 use Rattle.page_codec.specs.Geometry.{Geometry, block_of, shape_of, spare_at}
 use Rattle.page_codec.specs.Records.{Placed, header_in, record_in, is_sealed, live_record}
@@ -75,6 +77,11 @@ pub record Inside (g : Geometry) (d : Decoding) (spare : ℕ) (start now : Store
   pub book : ((now.book ≡ start.book) × (length records ≡ 0)) ⊎ (now.book ≡ with_state start.book spare (Spare false))
   pub seq : now.seq ≡ start.seq + length records
   pub holds : Holds g start now
+
+-- an entry names this place
+abbrev pub names_place : Option Entry → Place → Bool
+names_place None place = false
+names_place (Some entry) place = (place_of entry).page == place.page && (place_of entry).slot == place.slot
 
 -- what is kept of a record that was copied
 abbrev pub move_of : Placed → Move

@@ -7,6 +7,7 @@ mod blank;
 mod collect;
 mod copy;
 mod moves;
+mod scan;
 mod seal;
 
 pub use moves::Moves;
