@@ -21,7 +21,7 @@ abbrev pub OnlyIn : Geometry → List (List ℕ) → List (List ℕ) → ℕ →
 OnlyIn g old new block = (page : ℕ) → block_of g page ≢ block → page_at new page ≡ page_at old page
 
 -- the pages of a unit stand in one block
-unit_stays : (g : Geometry) (page k : ℕ) → 1 ≤ g.span → is_unit_page g page ≡ true → k < g.span → block_of g (page + k) ≡ block_of g page
+pub unit_stays : (g : Geometry) (page k : ℕ) → 1 ≤ g.span → is_unit_page g page ≡ true → k < g.span → block_of g (page + k) ≡ block_of g page
 unit_stays g page k spans h l =
     let p = and_parts _ _ h in
     let even : page % g.pages % g.span ≡ 0 = eqb-true _ _ p.0 in

@@ -1,17 +1,19 @@
 -- Facts inside a collection: what holds before its first copy, between two copies and after the last one.
-use Rattle.std.specs.Prelude.{◌≡◌, ◌≢◌, ◌⊎◌, ℕ, ◌+◌, ◌*◌, ◌%◌, ◌<◌, ◌≤◌, ◌==◌, nat_lt, ◌&&◌, ◌^◌, Bool, true, false, List, length, slice_index_or, if◌then◌else◌, count_by, sum_by, Option, Some, None}
+use Rattle.std.specs.Prelude.{◌≡◌, ◌≢◌, ◌⊎◌, ℕ, ◌+◌, ◌*◌, ◌%◌, ◌<◌, ◌≤◌, ◌==◌, nat_lt, ◌&&◌, ◌^◌, Bool, true, false, List, length, slice_index_or, if◌then◌else◌, count_by, sum_by, Option, Some, None, Result, Ok, Err}
 use Rattle.std.specs.List.{range_with_len}
 use Rattle.zero_count.specs.declared.Header.{Header}
 use Rattle.cell_die.specs.Cells.{page_at, is_blank}
 use Rattle.cell_die.specs.DieState.{DieState}
 use Rattle.cell_die.specs.Calls.{Passed}
-use Rattle.striped.specs.Meaning.{Decoding}
+use Rattle.striped.specs.Meaning.{Meaning, Decoding}
 use Rattle.spare_gate.specs.Slots.{is_gate_charged, is_slot_blank}
 use Rattle.block_state.specs.declared.state.State.TheVariants.{Spare}
 use Rattle.block_state.specs.Book.{BookValue, IsClosed, NoneActive, state_at, live_at, with_state}
 use Rattle.sector_map.specs.declared.entry.Entry.{Entry}
 use Rattle.sector_map.specs.Entry.{place_of}
 use Rattle.page_codec.specs.declared.place.Place.{Place}
+use Rattle.page_codec.specs.declared.fault.PutFault.{PutFault}
+use Rattle.page_codec.specs.declared.fault.PutFault.TheVariants.{Read, Change}
 use Rattle.page_codec.specs.Geometry.{Geometry, block_of, shape_of, spare_at}
 use Rattle.page_codec.specs.Records.{Placed, header_in, record_in, is_sealed, live_record}
 use Rattle.page_codec.specs.Sectors.{said_by, says_zeros}
@@ -124,3 +126,19 @@ pub record Begun (g : Geometry) (victim spare : ℕ) (start : Store) : Type 0 wh
   pub none_active : NoneActive start.book
   -- the victim's live records fit a block, with a page left
   pub few : live_at start.book victim < g.pages
+
+-- A collection stands before a slot of its victim, on so many pages scanned, with room for the moves of a block.
+pub record Stands (g : Geometry) (meaning : Meaning) (spare : ℕ) (start now : Store) (place : Place) (pages copies : ℕ) (moves : List Move) : Type 0 where
+  pub begun : Begun g (block_of g place.page) spare start
+  pub reached : Reached g meaning.decoding (block_of g place.page) spare start now (number_of g place) pages copies moves
+  pub slot : place.slot < g.generations
+  pub few_pages : pages ≤ g.pages
+  pub room : g.pages ≤ length moves
+  pub span : meaning.span ≡ g.span
+  pub bytes : meaning.page_bytes ≡ g.main_bytes
+
+-- how a turn ends: so many copies are made, or a call failed
+abbrev pub TurnEnds : Geometry → Decoding → ℕ → ℕ → Store → Store → ℕ → ℕ → List Move → Result ℕ PutFault → Type 0
+TurnEnds g d victim spare start now cursor pages moves (Ok copies) = Reached g d victim spare start now cursor pages copies moves
+TurnEnds g d victim spare start now cursor pages moves (Err Read) = ReadStopped g d victim spare start now
+TurnEnds g d victim spare start now cursor pages moves (Err Change) = ChangeStopped g d victim spare start now

@@ -120,7 +120,7 @@ fn copy_bytes<D: Die, C: Scheme>(
 ) -> Result<(), PutFault>
     requires die { Serves work.old (D.state die.old).shape }
     requires scheme { ServesScheme work.old (C.meaning scheme.old) }
-    requires few_bytes { (C.meaning scheme.old).sector_bytes ≤ 512 }
+    requires small_sector { (C.meaning scheme.old).sector_bytes ≤ 512 }
     requires page { page < page_count (D.state die.old).shape }
     requires blank { is_blank (page_of (D.state die.old) page) ≡ true }
     requires pages { place.page + reads_of (C.meaning scheme.old) place ≤ page_count (D.state die.old).shape }
@@ -171,7 +171,7 @@ pub(crate) fn copy_record<D: Die, C: Scheme>(
 ) -> Result<(), PutFault>
     requires die { Serves work.old (D.state die.old).shape }
     requires scheme { ServesScheme work.old (C.meaning scheme.old) }
-    requires few_bytes { (C.meaning scheme.old).sector_bytes ≤ 512 }
+    requires small_sector { (C.meaning scheme.old).sector_bytes ≤ 512 }
     requires page { page < page_count (D.state die.old).shape }
     requires blank { is_blank (page_of (D.state die.old) page) ≡ true }
     requires pages { place.page + reads_of (C.meaning scheme.old) place ≤ page_count (D.state die.old).shape }

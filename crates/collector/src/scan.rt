@@ -1,12 +1,12 @@
 //! The pages of a victim are scanned in order, each once, and the live records of a page are copied before the next page is read.
 //! A slot's record is live exactly where the map names that slot for its sector.
-ghost use Rattle.std.specs.Prelude.{◌≡◌, ◌+◌, ◌*◌, ◌/◌, ◌%◌, ◌<◌, ◌≤◌, ◌^◌, length, IfOk, Err};
+ghost use Rattle.std.specs.Prelude.{◌≡◌, ◌+◌, ◌*◌, ◌/◌, ◌%◌, ◌<◌, ◌≤◌, ◌^◌, length};
 ghost use Rattle.sector_map.specs.Entry.{entry_at};
 ghost use Rattle.page_codec.specs.Geometry.{block_of};
 ghost use Rattle.page_codec.specs.Records.{header_in};
 ghost use Rattle.page_codec.specs.Sizes.{Serves, ServesScheme};
 ghost use Rattle.collector.specs.Store.{Store, geometry_of, store};
-ghost use Rattle.collector.specs.Inside.{Begun, Reached, ReadStopped, ChangeStopped, number_of, names_place};
+ghost use Rattle.collector.specs.Inside.{Stands, TurnEnds, number_of, names_place};
 
 use crate::copy::{copy_record, is_of_zeros};
 use crate::moves::Move;
@@ -45,24 +45,17 @@ fn copy_slot<D: Die, C: Scheme>(
     header: Option<Header>,
     copies: u32,
 ) -> Result<u32, PutFault>
-    ghost start: { Store }
     requires die { Serves work.old (D.state die.old).shape }
     requires scheme { ServesScheme work.old (C.meaning scheme.old) }
-    requires few_bytes { (C.meaning scheme.old).sector_bytes ≤ 512 }
-    requires begun { Begun (geometry_of (D.state die.old).shape (C.meaning scheme.old) (length map.now)) (place.page / (D.state die.old).shape.pages) spare start }
-    requires reached { Reached (geometry_of (D.state die.old).shape (C.meaning scheme.old) (length map.now)) (C.meaning scheme.old).decoding
-        (place.page / (D.state die.old).shape.pages) spare start (store (D.state die.old) map.now book.old seq.old)
-        (number_of (geometry_of (D.state die.old).shape (C.meaning scheme.old) (length map.now)) place) (place.page % (D.state die.old).shape.pages + 1) copies moves.old }
-    requires slot { place.slot < (C.meaning scheme.old).generations }
+    requires small_sector { (C.meaning scheme.old).sector_bytes ≤ 512 }
+    requires stands { (start : Store) × Stands (geometry_of (D.state die.old).shape (C.meaning scheme.old) (length map.now)) (C.meaning scheme.old) spare start
+        (store (D.state die.old) map.now book.old seq.old) place (place.page % (D.state die.old).shape.pages + 1) copies moves.old }
     requires header { header ≡ header_in (geometry_of (D.state die.old).shape (C.meaning scheme.old) (length map.now)) (D.state die.old).cells place }
-    requires room { (D.state die.old).shape.pages ≤ length moves.old }
-    ensures reached { IfOk result (λ more. Reached (geometry_of (D.state die.old).shape (C.meaning scheme.old) (length map.now)) (C.meaning scheme.old).decoding
-        (place.page / (D.state die.old).shape.pages) spare start (store (D.state die.new) map.now book.new seq.new)
-        (number_of (geometry_of (D.state die.old).shape (C.meaning scheme.old) (length map.now)) place + 1) (place.page % (D.state die.old).shape.pages + 1) more moves.new) }
-    ensures read_failed { result ≡ Err PutFault.Read → ReadStopped (geometry_of (D.state die.old).shape (C.meaning scheme.old) (length map.now)) (C.meaning scheme.old).decoding
-        (place.page / (D.state die.old).shape.pages) spare start (store (D.state die.new) map.now book.new seq.new) }
-    ensures change_failed { result ≡ Err PutFault.Change → ChangeStopped (geometry_of (D.state die.old).shape (C.meaning scheme.old) (length map.now)) (C.meaning scheme.old).decoding
-        (place.page / (D.state die.old).shape.pages) spare start (store (D.state die.new) map.now book.new seq.new) }
+    ensures ends { (start : Store) → Stands (geometry_of (D.state die.old).shape (C.meaning scheme.old) (length map.now)) (C.meaning scheme.old) spare start
+            (store (D.state die.old) map.now book.old seq.old) place (place.page % (D.state die.old).shape.pages + 1) copies moves.old
+        → TurnEnds (geometry_of (D.state die.old).shape (C.meaning scheme.old) (length map.now)) (C.meaning scheme.old).decoding
+            (place.page / (D.state die.old).shape.pages) spare start (store (D.state die.new) map.now book.new seq.new)
+            (number_of (geometry_of (D.state die.old).shape (C.meaning scheme.old) (length map.now)) place + 1) (place.page % (D.state die.old).shape.pages + 1) moves.new result }
     ensures same_scheme { C.meaning scheme.new ≡ C.meaning scheme.old }
     ensures same_work { work.new ≡ work.old }
 {
@@ -73,12 +66,16 @@ fn copy_slot<D: Die, C: Scheme>(
         return Ok(copies);
     }
     let page = spare * book.pages() + copies;
-    copy_record(
+    match copy_record(
         die, scheme, work, book, seq, spare, page, place, &header,
-    )?;
-    moves[copies as usize] = Move {
-        sector: header.sector,
-        zeros: is_of_zeros(&header),
-    };
-    Ok(copies + 1)
+    ) {
+        Ok(()) => {
+            moves[copies as usize] = Move {
+                sector: header.sector,
+                zeros: is_of_zeros(&header),
+            };
+            Ok(copies + 1)
+        }
+        Err(fault) => Err(fault),
+    }
 }
