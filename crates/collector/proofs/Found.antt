@@ -51,12 +51,18 @@ module _ (g : Geometry) (meaning : Meaning) (spare : ℕ) (start now : Store) (p
   table_is : now.table ≡ live_map g start.die.cells
   table_is = s.reached.inside.table ∙ s.begun.tables.entries
 
+  next_number : number_of g place + 1 ≡ place.page % g.pages * g.generations + (place.slot + 1)
+  next_number = sum (place.page % g.pages * g.generations) place.slot
+    where
+      sum : (a b : ℕ) → a + b + 1 ≡ a + (b + 1)
+      sum a b = omega arith
+
   -- no live record in the slot
   pub slot_skipped : ((h : Header) → header_in g now.die.cells place ≡ Some h → names_place (entry_at now.table h.sector) place ≡ false)
-      → Reached g meaning.decoding (block_of g place.page) spare start now (number_of g place + 1) pages copies moves
-  slot_skipped none = reached_skip g meaning (block_of g place.page) spare start s.begun now (number_of g place) pages copies moves s.reached
+      → Reached g meaning.decoding (block_of g place.page) spare start now (place.page % g.pages * g.generations + (place.slot + 1)) pages copies moves
+  slot_skipped none = subst (λ (n : ℕ). Reached g meaning.decoding (block_of g place.page) spare start now n pages copies moves) next_number (reached_skip g meaning (block_of g place.page) spare start s.begun now (number_of g place) pages copies moves s.reached
       (unnamed_none g start.die.cells (block_of g place.page) place one_slot s.slot refl
-      (λ h e. subst (λ table. names_place (entry_at table h.sector) place ≡ false) table_is (none h (sym header_was ∙ e))))
+      (λ h e. subst (λ table. names_place (entry_at table h.sector) place ≡ false) table_is (none h (sym header_was ∙ e)))))
 
   module _ (h : Header) (there : header_in g now.die.cells place ≡ Some h) (named : names_place (entry_at now.table h.sector) place ≡ true) where
     live : live_record g start.die.cells h.sector ≡ Some (placed_at place h)
@@ -137,11 +143,11 @@ module _ (g : Geometry) (meaning : Meaning) (spare : ℕ) (start now : Store) (p
       }
 
       pub slot_copied : {T : Type 0} (done : T) → CopyEnds meaning spare page place h (Ok done) now.die now.book now.seq new after next
-          → Reached g meaning.decoding (block_of g place.page) spare start (store new now.table after next) (number_of g place + 1) pages (copies + 1) (slice_set moves copies (move_of (placed_at place h)))
-      slot_copied done ends = reached_take g meaning (block_of g place.page) spare start s.begun now (number_of g place) pages copies moves s.reached (placed_at place h) new after next
+          → Reached g meaning.decoding (block_of g place.page) spare start (store new now.table after next) (place.page % g.pages * g.generations + (place.slot + 1)) pages (copies + 1) (slice_set moves copies (move_of (placed_at place h)))
+      slot_copied done ends = subst (λ (n : ℕ). Reached g meaning.decoding (block_of g place.page) spare start (store new now.table after next) n pages (copies + 1) (slice_set moves copies (move_of (placed_at place h)))) next_number (reached_take g meaning (block_of g place.page) spare start s.begun now (number_of g place) pages copies moves s.reached (placed_at place h) new after next
           (copies_of ends.0)
           (subst (λ (q : ℕ). is_gated new (first_slot q) ≡ true) (is_page ∙ ap (λ (n : ℕ). spare * g.pages + n) s.reached.copied) ends.1)
-          ends.2 (omega (arith, found_room, s.room))
+          ends.2 (omega (arith, found_room, s.room)))
 
       reads_few : pages + passed_gets g start.die.cells (block_of g place.page) (number_of g place) + copy_reads meaning place h ≤ collection_reads g start.die.cells (block_of g place.page)
       reads_few =
@@ -155,7 +161,7 @@ module _ (g : Geometry) (meaning : Meaning) (spare : ℕ) (start now : Store) (p
           )
 
       pub slot_failed : (T : Type 0) (fault : PutFault) → CopyEnds {T = T} meaning spare page place h (Err fault) now.die now.book now.seq new after next
-          → TurnEnds g meaning.decoding (block_of g place.page) spare start (store new now.table after next) (number_of g place + 1) pages moves (Err fault)
+          → TurnEnds g meaning.decoding (block_of g place.page) spare start (store new now.table after next) (place.page % g.pages * g.generations + (place.slot + 1)) pages moves (Err fault)
       slot_failed T Read ends =
           subst (ReadStopped g meaning.decoding (block_of g place.page) spare start) (ap₂ (λ (v : BookValue) (n : ℕ). store new now.table v n) (sym ends.1) (sym ends.2))
           (read_stops g meaning (block_of g place.page) spare start s.begun now (number_of g place) pages copies (copy_reads meaning place h) moves new s.reached ends.0 kept ends.3 reads_few)

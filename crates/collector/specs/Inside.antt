@@ -1,7 +1,8 @@
 -- Facts inside a collection: what holds before its first copy, between two copies and after the last one.
-use Rattle.std.specs.Prelude.{◌≡◌, ◌≢◌, ◌⊎◌, ℕ, ◌+◌, ◌*◌, ◌%◌, ◌<◌, ◌≤◌, ◌==◌, nat_lt, ◌&&◌, ◌^◌, Bool, true, false, List, length, slice_index_or, if◌then◌else◌, count_by, sum_by, Option, Some, None, Result, Ok, Err}
+use Rattle.std.specs.Prelude.{◌≡◌, ◌≢◌, ◌⊎◌, ℕ, ◌+◌, ◌*◌, ◌/◌, ◌%◌, ◌<◌, ◌≤◌, ◌==◌, nat_lt, ◌&&◌, ◌^◌, Bool, true, false, List, length, slice_index_or, if◌then◌else◌, count_by, sum_by, Option, Some, None, Result, Ok, Err}
 use Rattle.std.specs.List.{range_with_len}
 use Rattle.zero_count.specs.declared.Header.{Header}
+use Rattle.cell_die.specs.declared.shape.Shape.{Shape}
 use Rattle.cell_die.specs.Cells.{page_at, is_blank}
 use Rattle.cell_die.specs.DieState.{DieState}
 use Rattle.cell_die.specs.Calls.{Passed}
@@ -17,7 +18,7 @@ use Rattle.page_codec.specs.declared.fault.PutFault.TheVariants.{Read, Change}
 use Rattle.page_codec.specs.Geometry.{Geometry, block_of, shape_of, spare_at}
 use Rattle.page_codec.specs.Records.{Placed, header_in, record_in, is_sealed, live_record}
 use Rattle.page_codec.specs.Sectors.{said_by, says_zeros}
-use Rattle.collector.specs.Store.{Store, IsTrueStore, Holds}
+use Rattle.collector.specs.Store.{Store, IsTrueStore, Holds, geometry_of}
 use Rattle.collector.specs.Collections.{CollectReadFailed, CollectChangeFailed, copy_of, get_reads, nth}
 use Rattle.collector.specs.declared.moves.Move.{Move}
 
@@ -142,3 +143,12 @@ abbrev pub TurnEnds : Geometry → Decoding → ℕ → ℕ → Store → Store 
 TurnEnds g d victim spare start now cursor pages moves (Ok copies) = Reached g d victim spare start now cursor pages copies moves
 TurnEnds g d victim spare start now cursor pages moves (Err Read) = ReadStopped g d victim spare start now
 TurnEnds g d victim spare start now cursor pages moves (Err Change) = ChangeStopped g d victim spare start now
+
+-- before a slot of a page that was scanned
+abbrev pub StandsAt : Shape → Meaning → ℕ → ℕ → Store → Store → Place → ℕ → List Move → Type 0
+StandsAt shape meaning sectors spare start now place copies moves = Stands (geometry_of shape meaning sectors) meaning spare start now place (place.page % shape.pages + 1) copies moves
+
+-- how a turn on a page ends, whose next slot has this number in its page
+abbrev pub EndsAt : Shape → Meaning → ℕ → ℕ → Store → Store → ℕ → ℕ → List Move → Result ℕ PutFault → Type 0
+EndsAt shape meaning sectors spare start now page slot moves result =
+    TurnEnds (geometry_of shape meaning sectors) meaning.decoding (page / shape.pages) spare start now (page % shape.pages * meaning.generations + slot) (page % shape.pages + 1) moves result

@@ -1,18 +1,22 @@
 //! The pages of a victim are scanned in order, each once, and the live records of a page are copied before the next page is read.
 //! A slot's record is live exactly where the map names that slot for its sector.
 ghost use Rattle.std.specs.Prelude.{◌≡◌, ◌+◌, ◌*◌, ◌/◌, ◌%◌, ◌<◌, ◌≤◌, ◌^◌, length};
+ghost use Rattle.cell_die.specs.DieState.{page_count, page_of};
+ghost use Rattle.cell_die.specs.Calls.{Kept};
 ghost use Rattle.sector_map.specs.Entry.{entry_at};
 ghost use Rattle.page_codec.specs.Geometry.{block_of};
 ghost use Rattle.page_codec.specs.Records.{header_in};
+ghost use Rattle.page_codec.specs.Puts.{first_slot};
+ghost use Rattle.page_codec.specs.Seen.{seen_page};
 ghost use Rattle.page_codec.specs.Sizes.{Serves, ServesScheme};
 ghost use Rattle.collector.specs.Store.{Store, geometry_of, store};
-ghost use Rattle.collector.specs.Inside.{Stands, TurnEnds, number_of, names_place};
+ghost use Rattle.collector.specs.Inside.{Stands, StandsAt, EndsAt, TurnEnds, names_place};
 
 use crate::copy::{copy_record, is_of_zeros};
 use crate::moves::Move;
 use block_state::Book;
-use cell_die::Die;
-use page_codec::{Place, PutFault, Work};
+use cell_die::{Die, DieFault};
+use page_codec::{Place, PutFault, Seen, Work, scan};
 use sector_map::{Entry, SectorMap};
 use striped::Scheme;
 use zero_count::Header;
@@ -48,14 +52,11 @@ fn copy_slot<D: Die, C: Scheme>(
     requires die { Serves work.old (D.state die.old).shape }
     requires scheme { ServesScheme work.old (C.meaning scheme.old) }
     requires small_sector { (C.meaning scheme.old).sector_bytes ≤ 512 }
-    requires stands { (start : Store) × Stands (geometry_of (D.state die.old).shape (C.meaning scheme.old) (length map.now)) (C.meaning scheme.old) spare start
-        (store (D.state die.old) map.now book.old seq.old) place (place.page % (D.state die.old).shape.pages + 1) copies moves.old }
+    requires stands { (start : Store) × StandsAt (D.state die.old).shape (C.meaning scheme.old) (length map.now) spare start (store (D.state die.old) map.now book.old seq.old) place copies moves.old }
     requires header { header ≡ header_in (geometry_of (D.state die.old).shape (C.meaning scheme.old) (length map.now)) (D.state die.old).cells place }
-    ensures ends { (start : Store) → Stands (geometry_of (D.state die.old).shape (C.meaning scheme.old) (length map.now)) (C.meaning scheme.old) spare start
-            (store (D.state die.old) map.now book.old seq.old) place (place.page % (D.state die.old).shape.pages + 1) copies moves.old
-        → TurnEnds (geometry_of (D.state die.old).shape (C.meaning scheme.old) (length map.now)) (C.meaning scheme.old).decoding
-            (place.page / (D.state die.old).shape.pages) spare start (store (D.state die.new) map.now book.new seq.new)
-            (number_of (geometry_of (D.state die.old).shape (C.meaning scheme.old) (length map.now)) place + 1) (place.page % (D.state die.old).shape.pages + 1) moves.new result }
+    ensures ends { (start : Store) → StandsAt (D.state die.old).shape (C.meaning scheme.old) (length map.now) spare start (store (D.state die.old) map.now book.old seq.old) place copies moves.old
+        → EndsAt (D.state die.old).shape (C.meaning scheme.old) (length map.now) spare start (store (D.state die.new) map.now book.new seq.new) place.page (place.slot + 1) moves.new result }
+    ensures kept { Kept (D.state die.old) (D.state die.new) }
     ensures same_scheme { C.meaning scheme.new ≡ C.meaning scheme.old }
     ensures same_work { work.new ≡ work.old }
 {
@@ -77,5 +78,117 @@ fn copy_slot<D: Die, C: Scheme>(
             Ok(copies + 1)
         }
         Err(fault) => Err(fault),
+    }
+}
+
+/// Copies the live records of a page that was scanned.
+fn copy_seen<D: Die, C: Scheme>(
+    die: &mut D,
+    scheme: &mut C,
+    work: &mut Work,
+    map: &SectorMap,
+    book: &mut Book,
+    moves: &mut [Move],
+    seq: &mut u64,
+    spare: u32,
+    page: u32,
+    seen: &Seen,
+    copies: u32,
+) -> Result<u32, PutFault>
+    requires die { Serves work.old (D.state die.old).shape }
+    requires scheme { ServesScheme work.old (C.meaning scheme.old) }
+    requires small_sector { (C.meaning scheme.old).sector_bytes ≤ 512 }
+    requires stands { (start : Store) × StandsAt (D.state die.old).shape (C.meaning scheme.old) (length map.now) spare start (store (D.state die.old) map.now book.old seq.old) (first_slot page) copies moves.old }
+    requires seen { seen.now ≡ seen_page (D.state die.old).shape.main_bytes (C.meaning scheme.old).generations (page_of (D.state die.old) page) }
+    ensures ends { (start : Store) → StandsAt (D.state die.old).shape (C.meaning scheme.old) (length map.now) spare start (store (D.state die.old) map.now book.old seq.old) (first_slot page) copies moves.old
+        → EndsAt (D.state die.old).shape (C.meaning scheme.old) (length map.now) spare start (store (D.state die.new) map.now book.new seq.new) page (C.meaning scheme.old).generations moves.new result }
+    ensures kept { Kept (D.state die.old) (D.state die.new) }
+    ensures same_scheme { C.meaning scheme.new ≡ C.meaning scheme.old }
+    ensures same_work { work.new ≡ work.old }
+{
+    let first = Place { page, slot: 0 };
+    let copies = match copy_slot(
+        die,
+        scheme,
+        work,
+        map,
+        book,
+        moves,
+        seq,
+        spare,
+        first,
+        seen.first.header,
+        copies,
+    ) {
+        Ok(copies) => copies,
+        Err(fault) => return Err(fault),
+    };
+    let second = Place { page, slot: 1 };
+    let copies = match copy_slot(
+        die,
+        scheme,
+        work,
+        map,
+        book,
+        moves,
+        seq,
+        spare,
+        second,
+        seen.second.header,
+        copies,
+    ) {
+        Ok(copies) => copies,
+        Err(fault) => return Err(fault),
+    };
+    if scheme.generations() == 2 {
+        return Ok(copies);
+    }
+    let third = Place { page, slot: 2 };
+    copy_slot(
+        die,
+        scheme,
+        work,
+        map,
+        book,
+        moves,
+        seq,
+        spare,
+        third,
+        seen.third.header,
+        copies,
+    )
+}
+
+/// Scans a page of the victim, and copies its live records.
+fn copy_page<D: Die, C: Scheme>(
+    die: &mut D,
+    scheme: &mut C,
+    work: &mut Work,
+    map: &SectorMap,
+    book: &mut Book,
+    moves: &mut [Move],
+    seq: &mut u64,
+    spare: u32,
+    page: u32,
+    copies: u32,
+) -> Result<u32, PutFault>
+    requires die { Serves work.old (D.state die.old).shape }
+    requires scheme { ServesScheme work.old (C.meaning scheme.old) }
+    requires small_sector { (C.meaning scheme.old).sector_bytes ≤ 512 }
+    requires page { page < page_count (D.state die.old).shape }
+    requires stands { (start : Store) × Stands (geometry_of (D.state die.old).shape (C.meaning scheme.old) (length map.now)) (C.meaning scheme.old) spare start
+        (store (D.state die.old) map.now book.old seq.old) (first_slot page) (page % (D.state die.old).shape.pages) copies moves.old }
+    ensures ends { (start : Store) → Stands (geometry_of (D.state die.old).shape (C.meaning scheme.old) (length map.now)) (C.meaning scheme.old) spare start
+            (store (D.state die.old) map.now book.old seq.old) (first_slot page) (page % (D.state die.old).shape.pages) copies moves.old
+        → EndsAt (D.state die.old).shape (C.meaning scheme.old) (length map.now) spare start (store (D.state die.new) map.now book.new seq.new) page (C.meaning scheme.old).generations moves.new result }
+    ensures kept { Kept (D.state die.old) (D.state die.new) }
+    ensures same_scheme { C.meaning scheme.new ≡ C.meaning scheme.old }
+    ensures same_work { work.new ≡ work.old }
+{
+    match scan(die, work, page) {
+        Ok(seen) => copy_seen(
+            die, scheme, work, map, book, moves, seq, spare, page, &seen, copies,
+        ),
+        Err(DieFault) => Err(PutFault::Read),
     }
 }

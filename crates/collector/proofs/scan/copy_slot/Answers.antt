@@ -8,7 +8,7 @@ use Rattle.sector_map.specs.Entry.{entry_at}
 use Rattle.page_codec.specs.Sectors.{says_zeros}
 use Rattle.collector.specs.declared.moves.Move.{Move}
 use Rattle.collector.specs.Store.{geometry_of, store}
-use Rattle.collector.specs.Inside.{names_place, Reached, number_of}
+use Rattle.collector.specs.Inside.{names_place, Reached}
 use Rattle.collector.proofs.Found.{slot_skipped, found_room, found_few, found_page, found_blank, found_spare, found_seq, found_pages, found_reads, slot_copied, slot_failed}
 use Rattle.collector.proofs.scan.copy_slot.Goals as goal
 
@@ -70,7 +70,7 @@ pub returns-in-Ok-clause-ends : goal.returns-in-Ok-clause-ends
 returns-in-Ok-clause-ends g c start stands =
     subst (λ (t : Bool). Reached (geometry_of (g.D.Die.state c.args.die.now).shape (g.C.Scheme.meaning c.args.scheme.now) (length c.args.map.now)) (g.C.Scheme.meaning c.args.scheme.now).decoding (c.args.place.page / (g.D.Die.state c.args.die.now).shape.pages) c.args.spare start
     (store (g.D.Die.state c.copy_record.new.die) c.args.map.now c.copy_record.new.book c.copy_record.new.seq)
-    (number_of (geometry_of (g.D.Die.state c.args.die.now).shape (g.C.Scheme.meaning c.args.scheme.now) (length c.args.map.now)) c.args.place + 1) (c.args.place.page % (g.D.Die.state c.args.die.now).shape.pages + 1) (c.args.copies + 1)
+    (c.args.place.page % (g.D.Die.state c.args.die.now).shape.pages * (g.C.Scheme.meaning c.args.scheme.now).generations + (c.args.place.slot + 1)) (c.args.place.page % (g.D.Die.state c.args.die.now).shape.pages + 1) (c.args.copies + 1)
     (slice_set c.args.moves.now c.args.copies (record { sector = c.in-Some.header.sector; zeros = t }))) (sym c.is_of_zeros.ensures)
     (slot_copied (geometry_of (g.D.Die.state c.args.die.now).shape (g.C.Scheme.meaning c.args.scheme.now) (length c.args.map.now)) (g.C.Scheme.meaning c.args.scheme.now) c.args.spare start (store (g.D.Die.state c.args.die.now) c.args.map.now c.args.book.now c.args.seq.now) c.args.place (c.args.place.page % (g.D.Die.state c.args.die.now).shape.pages + 1) c.args.copies c.args.moves.now stands c.in-Some.header (sym c.requires.header ∙ c.in-Some.is) (sym c.is_named.ensures.named ∙ c.if-not-is_named.false)
     c.is_named.ensures.small (c.args.spare * c.pages.result + c.args.copies)
