@@ -24,7 +24,8 @@ use Rattle.page_codec.proofs.Live.{holds_within}
 use Rattle.collector.specs.declared.moves.Move.{Move}
 use Rattle.collector.specs.Collections.{collection_reads, get_reads}
 use Rattle.page_codec.specs.Sectors.{says_zeros}
-use Rattle.collector.specs.Inside.{Stands, TurnEnds, Reached, Begun, ReadStopped, ChangeStopped, number_of, names_place, passed_gets, move_of}
+use Rattle.collector.specs.Inside.{Stands, TurnEnds, Reached, Begun, ReadStopped, ChangeStopped, number_of, names_place, passed_gets}
+use Rattle.collector.specs.Settles.{move_of}
 use Rattle.collector.specs.Steps.{PutsDrawn, DecodesTo, copied_header, copy_reads, CopyEnds}
 use Rattle.collector.specs.Store.{Store, store}
 use Rattle.collector.proofs.Committed.{live_so}

@@ -31,7 +31,8 @@ use Rattle.page_codec.proofs.PutCells.{put_cells}
 use Rattle.page_codec.proofs.SoundErase.{live_count_same}
 use Rattle.collector.specs.declared.moves.Move.{Move}
 use Rattle.collector.specs.Collections.{CollectReadFailed, CollectChangeFailed, Marks, as_it_was, copied_to, collection_calls, collection_reads, erase_calls, copy_of, copied_kind, get_reads, nth}
-use Rattle.collector.specs.Inside.{Scanned, Taking, Inside, Reached, Begun, ReadStopped, ChangeStopped, number_of, passed_count, passed_gets, move_of, no_move}
+use Rattle.collector.specs.Inside.{Scanned, Taking, Inside, Reached, Begun, ReadStopped, ChangeStopped, number_of, passed_count, passed_gets}
+use Rattle.collector.specs.Settles.{move_of, no_move}
 use Rattle.collector.specs.Steps.{PutsDrawn, DecodesTo, copied_header, copy_reads}
 use Rattle.collector.specs.Store.{Store, store, IsTrueStore, SameRows, DrewSeqs, Holds}
 use Rattle.collector.proofs.BlankPages.{blank_header, blank_seal}

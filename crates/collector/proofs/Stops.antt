@@ -19,7 +19,8 @@ use Rattle.page_codec.specs.TrueBook.{IsTrueState, IsTrueSpare, is_block_blank}
 use Rattle.page_codec.specs.Units.{reads_of}
 use Rattle.collector.specs.declared.moves.Move.{Move}
 use Rattle.collector.specs.Collections.{CollectReadFailed, CollectChangeFailed, Marks, copied_to, collection_calls, collection_reads, erase_calls, get_reads, nth}
-use Rattle.collector.specs.Inside.{Scanned, Taking, Inside, Reached, Begun, ReadStopped, ChangeStopped, number_of, passed_gets, move_of, no_move}
+use Rattle.collector.specs.Inside.{Scanned, Taking, Inside, Reached, Begun, ReadStopped, ChangeStopped, number_of, passed_gets}
+use Rattle.collector.specs.Settles.{move_of, no_move}
 use Rattle.collector.specs.Steps.{PutsDrawn, DecodesTo, copied_header, copy_reads}
 use Rattle.collector.specs.Store.{Store, store}
 use Rattle.collector.proofs.BlankPages.{blank_header, blank_seal}

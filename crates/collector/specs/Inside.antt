@@ -21,6 +21,7 @@ use Rattle.page_codec.specs.Sectors.{said_by, says_zeros}
 use Rattle.collector.specs.Store.{Store, IsTrueStore, Holds, geometry_of}
 use Rattle.collector.specs.Collections.{CollectReadFailed, CollectChangeFailed, copy_of, get_reads, nth}
 use Rattle.collector.specs.declared.moves.Move.{Move}
+use Rattle.collector.specs.Settles.{move_of, no_move}
 
 -- the number of a slot within its block, by page and then by slot
 abbrev pub number_of : Geometry → Place → ℕ
@@ -85,13 +86,6 @@ pub record Inside (g : Geometry) (d : Decoding) (spare : ℕ) (start now : Store
 abbrev pub names_place : Option Entry → Place → Bool
 names_place None place = false
 names_place (Some entry) place = (place_of entry).page == place.page && (place_of entry).slot == place.slot
-
--- what is kept of a record that was copied
-abbrev pub move_of : Placed → Move
-move_of placed = record { sector = placed.header.sector; zeros = says_zeros placed.header }
-
-abbrev pub no_move : Move
-no_move = record { sector = 0; zeros = false }
 
 -- A collection has scanned the victim's slots up to a cursor, on so many pages, and copied the live records that it met.
 pub record Reached (g : Geometry) (d : Decoding) (victim spare : ℕ) (start now : Store) (cursor pages copies : ℕ) (moves : List Move) : Type 0 where

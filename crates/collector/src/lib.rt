@@ -9,5 +9,6 @@ mod copy;
 mod moves;
 mod scan;
 mod seal;
+mod settle;
 
 pub use moves::Moves;

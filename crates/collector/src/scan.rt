@@ -10,7 +10,7 @@ ghost use Rattle.page_codec.specs.Puts.{first_slot};
 ghost use Rattle.page_codec.specs.Seen.{seen_page};
 ghost use Rattle.page_codec.specs.Sizes.{Serves, ServesScheme};
 ghost use Rattle.collector.specs.Store.{Store, geometry_of, store};
-ghost use Rattle.collector.specs.Inside.{Stands, StandsAt, EndsAt, TurnEnds, names_place};
+ghost use Rattle.collector.specs.Inside.{Begun, Stands, StandsAt, EndsAt, TurnEnds, names_place};
 
 use crate::copy::{copy_record, is_of_zeros};
 use crate::moves::Move;
@@ -191,4 +191,51 @@ fn copy_page<D: Die, C: Scheme>(
         ),
         Err(DieFault) => Err(PutFault::Read),
     }
+}
+
+/// Copies the live records of the victim to the Spare, which is blank, and answers how many there are.
+pub(crate) fn copy_block<D: Die, C: Scheme>(
+    die: &mut D,
+    scheme: &mut C,
+    work: &mut Work,
+    map: &SectorMap,
+    book: &mut Book,
+    moves: &mut [Move],
+    seq: &mut u64,
+    victim: u32,
+    spare: u32,
+) -> Result<u32, PutFault>
+    requires die { Serves work.old (D.state die.old).shape }
+    requires scheme { ServesScheme work.old (C.meaning scheme.old) }
+    requires small_sector { (C.meaning scheme.old).sector_bytes ≤ 512 }
+    requires begun { Begun (geometry_of (D.state die.old).shape (C.meaning scheme.old) (length map.now)) victim spare (store (D.state die.old) map.now book.old seq.old) }
+    requires room { (D.state die.old).shape.pages ≤ length moves.old }
+    ensures ends { TurnEnds (geometry_of (D.state die.old).shape (C.meaning scheme.old) (length map.now)) (C.meaning scheme.old).decoding victim spare
+        (store (D.state die.old) map.now book.old seq.old) (store (D.state die.new) map.now book.new seq.new)
+        ((D.state die.old).shape.pages * (C.meaning scheme.old).generations) (D.state die.old).shape.pages moves.new result }
+    ensures kept { Kept (D.state die.old) (D.state die.new) }
+    ensures same_scheme { C.meaning scheme.new ≡ C.meaning scheme.old }
+    ensures same_work { work.new ≡ work.old }
+{
+    let pages = book.pages();
+    let first = victim * pages;
+    let mut copies = 0;
+    for i in 0..pages {
+        copies = match copy_page(
+            die,
+            scheme,
+            work,
+            map,
+            book,
+            moves,
+            seq,
+            spare,
+            first + i,
+            copies,
+        ) {
+            Ok(more) => more,
+            Err(fault) => return Err(fault),
+        };
+    }
+    Ok(copies)
 }
