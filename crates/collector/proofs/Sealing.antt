@@ -136,7 +136,7 @@ module _ (g : Geometry) (d : Decoding) (victim spare seq : ℕ) (start cells new
   -- ---- what is live
 
   -- the records are of different sectors
-  one_each : (i j : ℕ) → i < length records → j < length records → (nth records i).header.sector ≡ (nth records j).header.sector → i ≡ j
+  pub one_each : (i j : ℕ) → i < length records → j < length records → (nth records i).header.sector ≡ (nth records j).header.sector → i ≡ j
   one_each i j h k same =
       let one_record : nth records i ≡ nth records j = same_Some _ _ (sym (s.are_live.live i h) ∙ (ap (live_record g start) same ∙ s.are_live.live j k)) in
       elim (cases_lt i j) [
@@ -186,7 +186,7 @@ module _ (g : Geometry) (d : Decoding) (victim spare seq : ℕ) (start cells new
     ∙ s.taking.live sector
 
   -- a live record of the victim is one of those that were copied
-  moved : (sector : ℕ) (x : Placed) → live_record g start sector ≡ Some x → stands_in g victim (Some x) ≡ true
+  pub moved : (sector : ℕ) (x : Placed) → live_record g start sector ≡ Some x → stands_in g victim (Some x) ≡ true
       → (i : ℕ) × (i < length records) × (nth records i ≡ x) × (live_record g new sector ≡ Some (copy_of g spare seq (nth records i) i))
   moved sector x e is =
       let found = s.are_live.all sector x e is in
