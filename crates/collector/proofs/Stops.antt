@@ -31,10 +31,10 @@ use Rattle.collector.proofs.Reaching.{two_slots, live_is, marks_now, marked_next
 use Rattle.collector.proofs.States.{blank_pages}
 
 module _ (g : Geometry) (meaning : Meaning) (victim spare : ℕ) (start : Store) (b : Begun g victim spare start) where
-  one_slot : 1 ≤ g.generations
+  pub one_slot : 1 ≤ g.generations
   one_slot = omega (arith, two_slots g meaning.decoding victim spare start b)
 
-  calls_are : collection_calls start.book victim spare ≡ 2 * live_at start.book victim + 1
+  pub calls_are : collection_calls start.book victim spare ≡ 2 * live_at start.book victim + 1
   calls_are = ap (λ (n : ℕ). n + 2 * live_at start.book victim + 1) (ap erase_calls b.is_spare) ∙ omega arith
 
   -- at most the live records of the victim are copied

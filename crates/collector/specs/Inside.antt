@@ -19,7 +19,7 @@ use Rattle.page_codec.specs.Geometry.{Geometry, block_of, shape_of, spare_at}
 use Rattle.page_codec.specs.Records.{Placed, header_in, record_in, is_sealed, live_record}
 use Rattle.page_codec.specs.Sectors.{said_by, says_zeros}
 use Rattle.collector.specs.Store.{Store, IsTrueStore, Holds, geometry_of}
-use Rattle.collector.specs.Collections.{CollectReadFailed, CollectChangeFailed, copy_of, get_reads, nth}
+use Rattle.collector.specs.Collections.{Collected, CollectReadFailed, CollectChangeFailed, copy_of, get_reads, nth}
 use Rattle.collector.specs.declared.moves.Move.{Move}
 use Rattle.collector.specs.Settles.{move_of, no_move}
 
@@ -146,3 +146,9 @@ StandsAt shape meaning sectors spare start now place copies moves = Stands (geom
 abbrev pub EndsAt : Shape → Meaning → ℕ → ℕ → Store → Store → ℕ → ℕ → List Move → Result ℕ PutFault → Type 0
 EndsAt shape meaning sectors spare start now page slot moves result =
     TurnEnds (geometry_of shape meaning sectors) meaning.decoding (page / shape.pages) spare start now (page % shape.pages * meaning.generations + slot) (page % shape.pages + 1) moves result
+
+-- how a collection ends
+abbrev pub CollectEnds : Geometry → Decoding → ℕ → ℕ → Store → Store → Result ℕ PutFault → Type 0
+CollectEnds g d victim spare old new (Ok moved) = (moved ≡ live_at old.book victim) × Collected g d victim spare old new
+CollectEnds g d victim spare old new (Err Read) = CollectReadFailed g d victim spare old new
+CollectEnds g d victim spare old new (Err Change) = CollectChangeFailed g d victim spare old new
