@@ -1,5 +1,5 @@
 -- The book and the map after the seal, move by move.
-use Rattle.std.proofs.Common.{◌≡◌, ◌≢◌, inl, inr, ℕ, ◌+◌, ◌<◌, ◌≤◌, Bool, true, false, List, length, slice_set, if◌then◌else◌, Option, Some, None, refl, sym, ap, ap₂, ◌∙◌, subst, arith, length-set, get_or-set_same, get_or-set_other}
+use Rattle.std.proofs.Common.{◌≡◌, ◌≢◌, inl, inr, ℕ, ◌+◌, ◌<◌, ◌≤◌, Bool, true, false, List, length, slice_set, if◌then◌else◌, Option, Some, None, refl, sym, ap, ap₂, ◌∙◌, subst, arith, length-set, get_or-set_same, get_or-set_other, take, get_or-take}
 use Rattle.std.proofs.lemmas.Bool.{cases_eq, cases_lt, cond-false}
 use Rattle.sector_map.specs.declared.entry.Entry.{Entry}
 use Rattle.sector_map.specs.Entry.{entry_at}
@@ -7,7 +7,7 @@ use Rattle.block_links.specs.Lists.{without}
 use Rattle.block_state.specs.State.{is_closed}
 use Rattle.block_state.specs.Book.{BookValue, state_at, live_at, with_live}
 use Rattle.collector.specs.declared.moves.Move.{Move}
-use Rattle.collector.specs.Settles.{move_at, entry_on, NamesMoves}
+use Rattle.collector.specs.Settles.{move_at, no_move, entry_on, NamesMoves}
 use Rattle.collector.proofs.BooksAgain.{set_twice, set_same}
 
 -- an open block's live count is set again and again
@@ -41,3 +41,15 @@ names_more first moves n old mid s within = record {
   ];
   others = λ sector none. get_or-set_other mid (move_at moves n).sector sector _ None (λ e. none n (omega arith) (sym e)) ∙ s.others sector (λ i h. none i (omega (arith, h)));
 }
+
+-- the moves that are named are the first ones of a longer list
+pub names_whole : (first : ℕ) (moves : List Move) (n : ℕ) (old new : List (Option Entry)) → NamesMoves first (take n moves) n old new → NamesMoves first moves n old new
+names_whole first moves n old new s = record {
+  long = s.long;
+  named = λ i h last. subst (λ (m : Move). entry_at new m.sector ≡ Some (entry_on m (first + i))) (same i h)
+      (s.named i h (λ j after within e. last j after within (sym (ap (λ (m : Move). m.sector) (same j within)) ∙ (e ∙ ap (λ (m : Move). m.sector) (same i h)))));
+  others = λ sector none. s.others sector (λ i h e. none i h (sym (ap (λ (m : Move). m.sector) (same i h)) ∙ e));
+}
+  where
+    same : (i : ℕ) → i < n → move_at (take n moves) i ≡ move_at moves i
+    same i h = get_or-take n moves i no_move h

@@ -59,6 +59,9 @@ module _ (g : Geometry) (d : Decoding) (victim spare : ℕ) (start : Store) (b :
   true_spare : IsTrueSpare g start.die.cells spare true
   true_spare = subst (IsTrueState g start.die.cells spare) b.is_spare (b.tables.states spare b.spare_there)
 
+  pub spare_empty : live_count g start.die.cells spare ≡ 0
+  spare_empty = true_spare.free
+
   pub two_slots : 2 ≤ g.generations
   two_slots = omega (arith, b.tables.kept.two_generations, b.tables.sizes.generations)
 

@@ -1,5 +1,5 @@
 -- How a collection ends at its seal.
-use Rattle.std.proofs.Common.{◌≡◌, ◌≢◌, ◌⊎◌, inl, inr, ℕ, ◌+◌, ◌-◌, ◌*◌, ◌/◌, ◌%◌, ◌^◌, ◌<◌, ◌≤◌, Bool, true, false, List, [], length, take, drop, ◌==◌, Option, Some, None, refl, sym, ap, ap₂, ◌∙◌, subst, arith}
+use Rattle.std.proofs.Common.{◌≡◌, ◌≢◌, ◌⊎◌, inl, inr, ℕ, ◌+◌, ◌-◌, ◌*◌, ◌/◌, ◌%◌, ◌^◌, ◌<◌, ◌≤◌, Bool, true, false, List, [], length, take, drop, ◌==◌, Option, Some, None, refl, sym, ap, ap₂, ◌∙◌, subst, arith, length-set, get_or-take}
 use Rattle.std.proofs.lemmas.Bool.{cases_eq, cases_lt, and_parts, eq-eqb, false≢true, false_from_ne_true}
 use Rattle.std.proofs.lemmas.List.{ext_get_or}
 use Rattle.std.proofs.lemmas.Nat.{div-add-mod'}
@@ -15,7 +15,9 @@ use Rattle.cell_bits.proofs.Charging.{charged_other}
 use Rattle.striped.specs.Meaning.{Meaning}
 use Rattle.spare_gate.specs.Slots.{seal_cell_of}
 use Rattle.sector_map.specs.declared.entry.Entry.{Entry}
-use Rattle.block_state.specs.Book.{BookValue, IsValid, live_at}
+use Rattle.block_state.specs.Book.{BookValue, IsValid, IsSpare, IsActive, NoneActive, state_at, live_at, with_state}
+use Rattle.block_state.specs.State.{is_active}
+use Rattle.block_state.specs.declared.state.State.TheVariants.{Spare}
 use Rattle.page_codec.specs.Geometry.{Geometry, HasShape, block_of, page_count, shape_of}
 use Rattle.page_codec.specs.Records.{Placed, header_in}
 use Rattle.page_codec.specs.Sectors.{stored}
@@ -25,10 +27,13 @@ use Rattle.collector.specs.declared.moves.Move.{Move}
 use Rattle.collector.specs.Collections.{Collected, CollectChangeFailed, collection_calls, collection_reads, nth}
 use Rattle.collector.specs.Effects.{sealed}
 use Rattle.collector.specs.Inside.{Begun, Reached}
-use Rattle.collector.specs.Settles.{move_at, NamesMoves, settled}
+use Rattle.collector.specs.Settles.{move_at, no_move, NamesMoves, settled}
 use Rattle.collector.specs.Store.{Store, store, SameRows, Holds}
+use Rattle.collector.proofs.Books.{state_here, state_there}
+use Rattle.collector.proofs.Committed.{live_so}
+use Rattle.collector.proofs.Named.{live_map_long}
 use Rattle.collector.proofs.Passing.{count_end, gets_end, scanned_end}
-use Rattle.collector.proofs.Reaching.{two_slots, free_spare, fresh_start, live_is, marks_now, rows_now}
+use Rattle.collector.proofs.Reaching.{spare_still, spare_empty, two_slots, free_spare, fresh_start, live_is, marks_now, rows_now}
 use Rattle.collector.proofs.Sealing.{Seals, copy_is_live, others_live, header_stays, sealed_rows, sealed_sound}
 use Rattle.collector.proofs.Settled.{Settles, book_is, settled_true}
 use Rattle.collector.proofs.Shapes.{has_shape, page_there}
@@ -52,6 +57,49 @@ module _ (g : Geometry) (meaning : Meaning) (victim spare : ℕ) (start now : St
 
   pub first_there : spare * g.pages < page_count g
   first_there = page_there g (spare * g.pages) spare b.some_pages first_page b.spare_there
+
+  -- ---- what settling asks
+
+  pub copies_are : copies ≡ live_at start.book victim
+  copies_are = r.copied ∙ all_copied
+
+  pub book_pages : now.book.pages ≡ g.pages
+  book_pages = elim r.inside.book [
+    | inl unmarked ↦ ap (λ (v : BookValue). v.pages) unmarked.0 ∙ b.tables.sizes.pages
+    | inr marked ↦ ap (λ (v : BookValue). v.pages) marked ∙ b.tables.sizes.pages
+  ]
+
+  pub spare_now : IsSpare now.book spare
+  spare_now = spare_still g meaning.decoding victim spare start b now r.records r.inside
+
+  pub victim_in : victim < length now.book.states
+  victim_in = elim r.inside.book [
+    | inl unmarked ↦ omega (arith, b.victim_there, b.tables.sizes.blocks, ap (λ (v : BookValue). length v.states) unmarked.0)
+    | inr marked ↦ omega (arith, b.victim_there, b.tables.sizes.blocks, ap (λ (v : BookValue). length v.states) marked, length-set start.book.states spare (Spare false))
+  ]
+
+  pub none_live : live_at now.book spare ≡ 0
+  none_live = live ∙ (b.tables.live_counts spare b.spare_there ∙ spare_empty g meaning.decoding victim spare start b)
+    where
+      live : live_at now.book spare ≡ live_at start.book spare
+      live = elim r.inside.book [ inl unmarked ↦ ap (λ (v : BookValue). live_at v spare) unmarked.0 | inr marked ↦ ap (λ (v : BookValue). live_at v spare) marked ]
+
+  pub none_active_now : NoneActive now.book
+  none_active_now block active = elim r.inside.book [
+    | inl unmarked ↦ b.none_active block (subst (λ (v : BookValue). IsActive v block) unmarked.0 active)
+    | inr marked ↦ (let here : IsActive (with_state start.book spare (Spare false)) block = subst (λ (v : BookValue). IsActive v block) marked active in
+        elim (cases_eq block spare) [
+          | inl same ↦ false≢true (sym (ap is_active (ap (state_at (with_state start.book spare (Spare false))) same ∙ state_here start.book spare (Spare false) (omega (arith, b.spare_there, b.tables.sizes.blocks)))) ∙ here)
+          | inr other ↦ b.none_active block (sym (ap is_active (state_there start.book spare block (Spare false) other)) ∙ here)
+        ])
+  ]
+
+  pub sectors_in : (i : ℕ) → i < copies → (move_at (take copies moves) i).sector < length now.table
+  sectors_in i h =
+      let within : i < length r.records = omega (arith, h, r.copied) in
+      let here : (move_at (take copies moves) i).sector ≡ (nth r.records i).header.sector = ap (λ (m : Move). m.sector) (get_or-take copies moves i no_move h ∙ r.moved i within) in
+      let long : length now.table ≡ g.sectors = ap (length {A = Option Entry}) (r.inside.table ∙ b.tables.entries) ∙ live_map_long g start.die.cells in
+      omega (arith, here, long, (live_so g start.die.cells (nth r.records i).header.sector (nth r.records i) (r.scanned.live i within)).within)
 
   -- ---- the seal is charged
 

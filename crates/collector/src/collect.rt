@@ -1,1 +1,61 @@
-//! Collections: all live records of a victim are copied into the Spare, and count at once from the seal of it on.
+//! Collections: all live records of a victim are copied into the Spare, and count at once from the seal of it on. The order is
+//! erase, copies and seal, so that a cut leaves the sectors as they were up to the seal, and as they were from it on.
+ghost use Rattle.std.specs.Prelude.{◌≡◌, ◌+◌, ◌*◌, ◌<◌, ◌≤◌, ◌^◌, ℕ, length, IfOk, Err};
+ghost use Rattle.block_state.specs.Book.{live_at};
+ghost use Rattle.page_alloc.specs.CleanPage.{IsCollectBranch};
+ghost use Rattle.page_codec.specs.Sizes.{Serves, ServesScheme};
+ghost use Rattle.page_codec.specs.TrueBook.{IsTrue};
+ghost use Rattle.collector.specs.Store.{geometry_of, store, Holds};
+ghost use Rattle.collector.specs.Collections.{Collected, CollectReadFailed, CollectChangeFailed};
+ghost use Rattle.collector.specs.Inside.{Begun, CollectEnds};
+
+use crate::blank::blank_spare;
+use crate::moves::{Move, Moves};
+use crate::scan::copy_block;
+use crate::seal::charge_seal;
+use crate::settle::settle;
+use block_state::Book;
+use cell_die::{Die, DieFault};
+use page_codec::{PutFault, Work};
+use sector_map::SectorMap;
+use striped::Scheme;
+
+/// Copies the live records of the victim into the Spare, which is blank, and charges its seal.
+fn copy_sealed<D: Die, C: Scheme>(
+    die: &mut D,
+    scheme: &mut C,
+    work: &mut Work,
+    map: &mut SectorMap,
+    book: &mut Book,
+    moves: &mut [Move],
+    seq: &mut u64,
+    victim: u32,
+    spare: u32,
+) -> Result<u32, PutFault>
+    requires die { Serves work.old (D.state die.old).shape }
+    requires scheme { ServesScheme work.old (C.meaning scheme.old) }
+    requires small_sector { (C.meaning scheme.old).sector_bytes ≤ 512 }
+    requires small_page { (C.meaning scheme.old).page_bytes ≤ 1200 }
+    requires begun { Begun (geometry_of (D.state die.old).shape (C.meaning scheme.old) (length map.old)) victim spare (store (D.state die.old) map.old book.old seq.old) }
+    requires some_live { 0 < live_at book.old victim }
+    requires room { (D.state die.old).shape.pages ≤ length moves.old }
+    ensures holds { Holds (geometry_of (D.state die.old).shape (C.meaning scheme.old) (length map.old))
+        (store (D.state die.old) map.old book.old seq.old) (store (D.state die.new) map.new book.new seq.new) }
+    ensures ends { CollectEnds (geometry_of (D.state die.old).shape (C.meaning scheme.old) (length map.old)) (C.meaning scheme.old).decoding victim spare
+        (store (D.state die.old) map.old book.old seq.old) (store (D.state die.new) map.new book.new seq.new) result }
+    ensures same_scheme { C.meaning scheme.new ≡ C.meaning scheme.old }
+    ensures same_work { work.new ≡ work.old }
+{
+    let copies = match copy_block(die, scheme, work, map, book, moves, seq, victim, spare) {
+        Ok(copies) => copies,
+        Err(fault) => return Err(fault),
+    };
+    let first = spare * book.pages();
+    match charge_seal(die, first) {
+        Ok(()) => {
+            settle(map, book, &moves[..copies as usize], victim, spare);
+            Ok(copies)
+        }
+        Err(DieFault) => Err(PutFault::Change),
+    }
+}
