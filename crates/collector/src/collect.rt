@@ -59,3 +59,40 @@ fn copy_sealed<D: Die, C: Scheme>(
         Err(DieFault) => Err(PutFault::Change),
     }
 }
+
+/// Collects the victim into the Spare.
+fn collect_into<D: Die, C: Scheme>(
+    die: &mut D,
+    scheme: &mut C,
+    work: &mut Work,
+    map: &mut SectorMap,
+    book: &mut Book,
+    moves: &mut [Move],
+    seq: &mut u64,
+    victim: u32,
+    spare: u32,
+) -> Result<u32, PutFault>
+    requires die { Serves work.old (D.state die.old).shape }
+    requires scheme { ServesScheme work.old (C.meaning scheme.old) }
+    requires small_sector { (C.meaning scheme.old).sector_bytes ≤ 512 }
+    requires small_page { (C.meaning scheme.old).page_bytes ≤ 1200 }
+    requires some_span { 1 ≤ (C.meaning scheme.old).span }
+    requires tables { IsTrue (geometry_of (D.state die.old).shape (C.meaning scheme.old) (length map.old)) (D.state die.old).cells book.old map.old seq.old }
+    requires fresh { seq.old < 2 ^ 62 }
+    requires branch { IsCollectBranch book.old victim spare }
+    requires few { live_at book.old victim < book.old.pages }
+    requires room { book.old.pages ≤ length moves.old }
+    ensures holds { Holds (geometry_of (D.state die.old).shape (C.meaning scheme.old) (length map.old))
+        (store (D.state die.old) map.old book.old seq.old) (store (D.state die.new) map.new book.new seq.new) }
+    ensures ends { CollectEnds (geometry_of (D.state die.old).shape (C.meaning scheme.old) (length map.old)) (C.meaning scheme.old).decoding victim spare
+        (store (D.state die.old) map.old book.old seq.old) (store (D.state die.new) map.new book.new seq.new) result }
+    ensures same_scheme { C.meaning scheme.new ≡ C.meaning scheme.old }
+    ensures same_work { work.new ≡ work.old }
+{
+    match blank_spare(die, book, spare) {
+        Ok(()) => copy_sealed(
+            die, scheme, work, map, book, moves, seq, victim, spare,
+        ),
+        Err(DieFault) => Err(PutFault::Change),
+    }
+}
