@@ -1,5 +1,5 @@
 -- A collection is an erase, if there is one, and then the copies and their seal.
-use Rattle.std.proofs.Common.{◌≡◌, ◌≢◌, ◌⊎◌, inl, inr, ℕ, ◌+◌, ◌-◌, ◌*◌, ◌^◌, ◌<◌, ◌≤◌, Bool, true, false, IsTrue, List, length, if◌then◌else◌, Option, Some, None, Result, Ok, Err, refl, sym, ap, ap₂, ◌∙◌, subst, arith}
+use Rattle.std.proofs.Common.{◌≡◌, ◌≢◌, ◌⊎◌, inl, inr, ℕ, ◌+◌, ◌-◌, ◌*◌, ◌^◌, ◌<◌, ◌≤◌, Bool, true, false, IsTrue, List, length, if◌then◌else◌, Option, Some, None, Result, Ok, Err, IfOk, refl, sym, ap, ap₂, ◌∙◌, subst, arith}
 use Rattle.std.specs.List.{sum_by, range_with_len}
 use Rattle.std.proofs.lemmas.Bool.{cases_eq, cases_lt, false≢true}
 use Rattle.std.proofs.lemmas.List.{get_or_past}
@@ -140,6 +140,10 @@ begun_after g d victim spare old new book after table seq made s so branch few f
     few_still (was_blank is) = omega (arith, few, s.tables.sizes.pages)
     few_still (was_erased new is e only kept passed) = omega (arith, few, s.tables.sizes.pages)
 
+pub live_kept : (spare block : ℕ) (old new : DieState) (book after : BookValue) → MadeBlank spare old book new after → live_at after block ≡ live_at book block
+live_kept spare block old _ book _ (was_blank is) = refl
+live_kept spare block old _ book _ (was_erased new is e only kept passed) = refl
+
 -- ---- after the copies
 
 marks_after : (book : BookValue) (spare : ℕ) (x : BookValue) → spare < length book.states → state_at book spare ≡ Spare false → Marks (with_state book spare (Spare true)) spare x → Marks book spare x
@@ -220,3 +224,20 @@ erase_ends g d victim spare old new table book seq torn failed = record {
   rows = torn.rows;
   failed = change_failed_within (collection_calls old.book victim spare) (collection_reads g old.die.cells victim) (omega arith) (omega arith) failed;
 }
+
+-- ---- by the answer
+
+module _ (g : Geometry) (d : Decoding) (victim spare : ℕ) (old new : Store) where
+  pub ends_collected : (result : Result ℕ PutFault) → CollectEnds g d victim spare old new result → IfOk result (λ n. (n ≡ live_at old.book victim) × Collected g d victim spare old new)
+  ends_collected (Ok n) ends = ends
+  ends_collected (Err fault) ends = tt
+
+  pub ends_read : (result : Result ℕ PutFault) → CollectEnds g d victim spare old new result → result ≡ Err Read → CollectReadFailed g d victim spare old new
+  ends_read (Ok n) ends is = absurd (cc)
+  ends_read (Err Read) ends is = ends
+  ends_read (Err Change) ends is = absurd (cc)
+
+  pub ends_change : (result : Result ℕ PutFault) → CollectEnds g d victim spare old new result → result ≡ Err Change → CollectChangeFailed g d victim spare old new
+  ends_change (Ok n) ends is = absurd (cc)
+  ends_change (Err Read) ends is = absurd (cc)
+  ends_change (Err Change) ends is = ends

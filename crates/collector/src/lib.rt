@@ -4,11 +4,12 @@
 #![tactic(auto)]
 
 mod blank;
-mod collect;
+mod collection;
 mod copy;
 mod moves;
 mod scan;
 mod seal;
 mod settle;
 
+pub use collection::collect;
 pub use moves::Moves;

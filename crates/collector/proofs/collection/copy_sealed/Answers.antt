@@ -12,7 +12,7 @@ use Rattle.collector.specs.Settles.{NamesMoves, settled}
 use Rattle.collector.specs.Store.{geometry_of, store, Holds}
 use Rattle.collector.proofs.BooksSettled.{names_whole}
 use Rattle.collector.proofs.SealSteps.{copies_are, book_pages, first_there, spare_now, victim_in, none_live, none_active_now, sectors_in, holds_sealed, collected, seal_failed_charged, holds_unsealed, seal_failed}
-use Rattle.collector.proofs.collect.copy_sealed.Goals as goal
+use Rattle.collector.proofs.collection.copy_sealed.Goals as goal
 
 pub charge_seal-requires-clause-page : goal.charge_seal-requires-clause-page
 charge_seal-requires-clause-page g c =

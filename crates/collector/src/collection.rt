@@ -96,3 +96,49 @@ fn collect_into<D: Die, C: Scheme>(
         Err(DieFault) => Err(PutFault::Change),
     }
 }
+
+/// Collects the victim: its live records stand afterwards on the first pages of the Spare, which is the Active block, and the
+/// victim is the Spare. It answers how many records were moved. It takes no memory.
+///
+/// After `PutFault::Read` all sectors and live records are as before, and the seqs of the copies made so far are used up. After
+/// `PutFault::Change` all sectors are as before where the cells were sound.
+pub fn collect<D: Die, C: Scheme>(
+    die: &mut D,
+    scheme: &mut C,
+    work: &mut Work,
+    map: &mut SectorMap,
+    book: &mut Book,
+    moves: &mut Moves,
+    seq: &mut u64,
+) -> Result<u32, PutFault>
+    requires die { Serves work.old (D.state die.old).shape }
+    requires scheme { ServesScheme work.old (C.meaning scheme.old) }
+    requires small_sector { (C.meaning scheme.old).sector_bytes ≤ 512 }
+    requires small_page { (C.meaning scheme.old).page_bytes ≤ 1200 }
+    requires some_span { 1 ≤ (C.meaning scheme.old).span }
+    requires tables { IsTrue (geometry_of (D.state die.old).shape (C.meaning scheme.old) (length map.old)) (D.state die.old).cells book.old map.old seq.old }
+    requires fresh { seq.old < 2 ^ 62 }
+    requires branch { (victim : ℕ) × (spare : ℕ) × IsCollectBranch book.old victim spare × (live_at book.old victim < book.old.pages) }
+    requires room { book.old.pages ≤ moves.old }
+    ensures holds { Holds (geometry_of (D.state die.old).shape (C.meaning scheme.old) (length map.old))
+        (store (D.state die.old) map.old book.old seq.old) (store (D.state die.new) map.new book.new seq.new) }
+    ensures collected { (victim spare : ℕ) → IsCollectBranch book.old victim spare → IfOk result (λ n. (n ≡ live_at book.old victim)
+        × Collected (geometry_of (D.state die.old).shape (C.meaning scheme.old) (length map.old)) (C.meaning scheme.old).decoding victim spare
+            (store (D.state die.old) map.old book.old seq.old) (store (D.state die.new) map.new book.new seq.new)) }
+    ensures read_failed { (victim spare : ℕ) → IsCollectBranch book.old victim spare → result ≡ Err PutFault.Read
+        → CollectReadFailed (geometry_of (D.state die.old).shape (C.meaning scheme.old) (length map.old)) (C.meaning scheme.old).decoding victim spare
+            (store (D.state die.old) map.old book.old seq.old) (store (D.state die.new) map.new book.new seq.new) }
+    ensures change_failed { (victim spare : ℕ) → IsCollectBranch book.old victim spare → result ≡ Err PutFault.Change
+        → CollectChangeFailed (geometry_of (D.state die.old).shape (C.meaning scheme.old) (length map.old)) (C.meaning scheme.old).decoding victim spare
+            (store (D.state die.old) map.old book.old seq.old) (store (D.state die.new) map.new book.new seq.new) }
+    ensures same_scheme { C.meaning scheme.new ≡ C.meaning scheme.old }
+    ensures same_work { work.new ≡ work.old }
+    ensures same_room { moves.new ≡ moves.old }
+{
+    let Some(victim) = book.victim() else {
+        unreachable!()
+    };
+    let spare = book.spare();
+    let room = &mut moves.moves;
+    collect_into(die, scheme, work, map, book, room, seq, victim, spare)
+}
