@@ -120,7 +120,6 @@ pub record SparesIn (g : Geometry) (spare : ℕ) (now : Store) : Type 0 where
   pub tables : IsTrueStore g now
   pub shape : now.die.shape ≡ shape_of g
   pub shaped : IsShaped now.die
-  pub spans : 1 ≤ g.span
   pub is_spare : IsSpare now.book spare
 
 module _ (g : Geometry) (spare : ℕ) (now : Store) (s : SparesIn g spare now) where
@@ -185,10 +184,10 @@ blanked g d spare old _ book _ table seq (was_erased new is erased only kept pas
     let live = cleared_live g old.cells new.cells spare clears some one free in
     record {
       live = live;
-      tables = spare_changes g old.cells new.cells book table seq seq spare true s.spans s.tables s.is_spare clears.others live
+      tables = spare_changes g old.cells new.cells book table seq seq spare true s.tables s.is_spare clears.others live
           (λ _. block_blank g new.cells spare (λ i h. clears.blank (spare * g.pages + i) (page_in_block g spare i h)))
           free (cleared_next g old.cells new.cells spare clears seq s.tables.next_seq);
-      rows = rows_stay g d old.cells new.cells spare s.spans clears.others live (λ sector x e. none_stands g old.cells spare free sector x e);
+      rows = rows_stay g d old.cells new.cells spare clears.others live (λ sector x e. none_stands g old.cells spare free sector x e);
       holds = record {
         kept = kept;
         pads = pads_fell g old.cells new.cells spare falls;
@@ -218,7 +217,8 @@ torn_falls g d spare old new book table seq s shaped falls kept rose =
     let was = has_shape g old s.shape s.shaped in
     let is_now = has_shape g new (kept.shape ∙ s.shape) shaped in
     record {
-      rows = λ sound. tear_keeps_stored g d old.cells new.cells spare (tears g old.cells new.cells spare falls was is_now some one free sound) s.spans;
+      rows = λ sound. rows_stay g d old.cells new.cells spare falls.others
+          (tear_keeps_live g old.cells new.cells spare (tears g old.cells new.cells spare falls was is_now some one free sound)) (λ sector x e. none_stands g old.cells spare free sector x e);
       holds = record {
         kept = kept;
         pads = pads_fell g old.cells new.cells spare falls;

@@ -115,7 +115,6 @@ begun_after g d victim spare old new book after table seq made s so branch few f
   shape = so.holds.kept.shape ∙ s.shape;
   fresh = fresh;
   some_pages = page_there_is g spare (store old table book seq) s;
-  some_span = s.spans;
   victim_there = omega (arith, closed_within book victim branch.1.closed, s.tables.sizes.blocks);
   spare_there = spare_there g spare (store old table book seq) s;
   apart = closed_apart book victim spare branch.1.closed branch.3;

@@ -130,7 +130,7 @@ module _ (g : Geometry) (meaning : Meaning) (victim spare : ℕ) (start now : St
 
   -- all sectors stay, also where the put is torn
   pub rows_after : stored g meaning.decoding new.cells ≡ stored g meaning.decoding start.die.cells
-  rows_after = rows_stay g meaning.decoding start.die.cells new.cells spare c.begun.some_span others_after live_after (free_spare g meaning.decoding victim spare start c.begun)
+  rows_after = rows_stay g meaning.decoding start.die.cells new.cells spare others_after live_after (free_spare g meaning.decoding victim spare start c.begun)
 
   fresh : IsFresh g now.die.cells (copy_of g spare start.seq x (length records)).header
   fresh other k e = fresh_now g meaning.decoding victim spare start c.begun now records c.inside other k e
@@ -182,7 +182,7 @@ module _ (g : Geometry) (meaning : Meaning) (victim spare : ℕ) (start now : St
         ∙ (ap₂ (λ (m : ℕ) (row : List ℕ). meaning.decoding.first (take m row)) (sym c.bytes) (c.put.put.whole gated (spare * g.pages + length records))
         ∙ (c.put.put.content bytes
         ∙ (decoded_is bytes
-        ∙ said_stays g meaning.decoding start.die.cells now.die.cells spare c.begun.some_span c.inside.taking.others x
+        ∙ said_stays g meaning.decoding start.die.cells now.die.cells spare c.inside.taking.others x
         (live_so g start.die.cells x.header.sector x c.live).so.holds (λ here. c.begun.apart (sym c.here ∙ here)))))
   ]
     where

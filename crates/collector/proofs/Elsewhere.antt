@@ -14,15 +14,19 @@ use Rattle.page_codec.specs.Records.{Placed, may_hold, committed_in, live_record
 use Rattle.page_codec.specs.Sectors.{says_zeros, zero_sector, said_by, stored}
 use Rattle.page_codec.proofs.Changes.{committed_stays}
 use Rattle.collector.proofs.Committed.{live_so}
-use Rattle.collector.proofs.States.{page_in_block}
+use Rattle.collector.proofs.States.{page_in_block, span_of_units}
 
 -- only the pages of this block changed
 abbrev pub OnlyIn : Geometry → List (List ℕ) → List (List ℕ) → ℕ → Type 0
 OnlyIn g old new block = (page : ℕ) → block_of g page ≢ block → page_at new page ≡ page_at old page
 
 -- the pages of a unit stand in one block
-pub unit_stays : (g : Geometry) (page k : ℕ) → 1 ≤ g.span → is_unit_page g page ≡ true → k < g.span → block_of g (page + k) ≡ block_of g page
-unit_stays g page k spans h l =
+pub span_of_unit : (g : Geometry) (page : ℕ) → is_unit_page g page ≡ true → 1 ≤ g.span
+span_of_unit g page h = span_of_units g (page % g.pages / g.span) (ltb-true _ _ (and_parts _ _ h).1)
+
+pub unit_stays : (g : Geometry) (page k : ℕ) → is_unit_page g page ≡ true → k < g.span → block_of g (page + k) ≡ block_of g page
+unit_stays g page k h l =
+    let spans : 1 ≤ g.span = span_of_unit g page h in
     let p = and_parts _ _ h in
     let even : page % g.pages % g.span ≡ 0 = eqb-true _ _ p.0 in
     let below : page % g.pages / g.span < g.pages / g.span = ltb-true _ _ p.1 in
@@ -48,9 +52,9 @@ unit_page_from_slot g place h n = elim (or_cases _ _ (and_parts _ _ h).1) [
 ]
 
 -- a record in another block says what it said
-pub said_stays : (g : Geometry) (d : Decoding) (old new : List (List ℕ)) (block : ℕ) → 1 ≤ g.span → OnlyIn g old new block → (x : Placed) → may_hold g x.place ≡ true → block_of g x.place.page ≢ block
+pub said_stays : (g : Geometry) (d : Decoding) (old new : List (List ℕ)) (block : ℕ) → OnlyIn g old new block → (x : Placed) → may_hold g x.place ≡ true → block_of g x.place.page ≢ block
     → said_by g d new (Some x) ≡ said_by g d old (Some x)
-said_stays g d old new block spans others x holds apart = at (x.place.slot == 0) refl
+said_stays g d old new block others x holds apart = at (x.place.slot == 0) refl
   where
     pages_same : (k : ℕ) → block_of g (x.place.page + k) ≡ block_of g x.place.page → main_at g new (x.place.page + k) ≡ main_at g old (x.place.page + k)
     pages_same k e = ap (take g.main_bytes) (others (x.place.page + k) (λ here. apart (sym e ∙ here)))
@@ -61,19 +65,19 @@ said_stays g d old new block spans others x holds apart = at (x.place.slot == 0)
     at true e = ap (λ (bytes : List ℕ). if says_zeros x.header then zero_sector g else d.first (take g.main_bytes bytes)) (others x.place.page apart)
     at false e = ap (λ (bytes : List ℕ). if says_zeros x.header then zero_sector g else d.second bytes)
         (flat_map_same (main_at g new) (main_at g old) x.place.page g.span (λ k l. pages_same k
-        (unit_stays g x.place.page k spans (unit_page_from_slot g x.place holds (λ same. false≢true (sym e ∙ eq-eqb x.place.slot 0 same))) l)))
+        (unit_stays g x.place.page k (unit_page_from_slot g x.place holds (λ same. false≢true (sym e ∙ eq-eqb x.place.slot 0 same))) l)))
 
 -- Where all live records stay, and none stands in the block, every stored sector stays.
-pub rows_stay : (g : Geometry) (d : Decoding) (old new : List (List ℕ)) (block : ℕ) → 1 ≤ g.span → OnlyIn g old new block
+pub rows_stay : (g : Geometry) (d : Decoding) (old new : List (List ℕ)) (block : ℕ) → OnlyIn g old new block
     → ((sector : ℕ) → live_record g new sector ≡ live_record g old sector)
     → ((sector : ℕ) (x : Placed) → live_record g old sector ≡ Some x → block_of g x.place.page ≢ block)
     → stored g d new ≡ stored g d old
 unfolding stored
-rows_stay g d old new block spans others same free = λ i. map (λ sector. each sector i) (range_with_len 0 g.sectors)
+rows_stay g d old new block others same free = λ i. map (λ sector. each sector i) (range_with_len 0 g.sectors)
   where
     said : (sector : ℕ) (o : Option Placed) → live_record g old sector ≡ o → said_by g d new o ≡ said_by g d old o
     said sector None e = refl
-    said sector (Some x) e = said_stays g d old new block spans others x (live_so g old sector x e).so.holds (free sector x e)
+    said sector (Some x) e = said_stays g d old new block others x (live_so g old sector x e).so.holds (free sector x e)
 
     each : (sector : ℕ) → said_by g d new (live_record g new sector) ≡ said_by g d old (live_record g old sector)
     each sector = ap (said_by g d new) (same sector) ∙ said sector (live_record g old sector) refl

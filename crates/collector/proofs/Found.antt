@@ -30,7 +30,7 @@ use Rattle.collector.specs.Steps.{PutsDrawn, DecodesTo, copied_header, copy_read
 use Rattle.collector.specs.Store.{Store, store}
 use Rattle.collector.proofs.Committed.{live_so}
 use Rattle.collector.proofs.CopySteps.{Copies}
-use Rattle.collector.proofs.Elsewhere.{unit_stays, unit_page_from_slot}
+use Rattle.collector.proofs.Elsewhere.{span_of_unit, unit_stays, unit_page_from_slot}
 use Rattle.collector.proofs.Named.{named_there, unnamed_none}
 use Rattle.collector.proofs.Passing.{count_take, count_few, gets_take, gets_few}
 use Rattle.collector.proofs.Reaching.{two_slots, live_is, spare_still}
@@ -109,11 +109,12 @@ module _ (g : Geometry) (meaning : Meaning) (spare : ℕ) (start now : Store) (p
     found_reads = elim (cases_eq place.slot 0) [
       | inl first ↦ (let one : reads_of meaning place ≡ 1 = cond-true (place.slot == 0) 1 meaning.span (eq-eqb place.slot 0 first) in omega (arith, one, in_die))
       | inr later ↦ (
+          let some : 1 ≤ g.span = span_of_unit g place.page (unit_page_from_slot g place holds later) in
           let whole : reads_of meaning place ≡ meaning.span = cond-false (place.slot == 0) 1 meaning.span (ne_eqb place.slot 0 later) in
           let last : block_of g (place.page + (g.span - 1)) ≡ block_of g place.page
-          = unit_stays g place.page (g.span - 1) s.begun.some_span (unit_page_from_slot g place holds later) (let some = s.begun.some_span in omega arith) in
+          = unit_stays g place.page (g.span - 1) (unit_page_from_slot g place holds later) (omega (arith, some)) in
           let there = page_there g (place.page + (g.span - 1)) (block_of g place.page) s.begun.some_pages last s.begun.victim_there in
-          omega (arith, whole, there, s.span, s.begun.some_span))
+          omega (arith, whole, there, s.span, some))
     ]
       where
         holds : may_hold g place ≡ true

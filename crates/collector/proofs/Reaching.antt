@@ -113,15 +113,15 @@ module _ (g : Geometry) (d : Decoding) (victim spare : ℕ) (start : Store) (b :
     pub tables_now : IsTrueStore g now
     tables_now = subst (λ (table : List (Option Entry)). IsTrueTo g now.die.cells now.book table now.seq) (sym s.table) (elim s.book [
       | inl unmarked ↦ subst (λ (v : BookValue). IsTrueTo g now.die.cells v start.table now.seq) (state_same start.book spare (Spare true) b.is_spare refl ∙ sym unmarked.0)
-          (spare_changes g start.die.cells now.die.cells start.book start.table start.seq now.seq spare true b.some_span b.tables spare_is s.taking.others s.taking.live
+          (spare_changes g start.die.cells now.die.cells start.book start.table start.seq now.seq spare true b.tables spare_is s.taking.others s.taking.live
           (λ _. block_blank g now.die.cells spare (λ i h. s.taking.blank i (omega (arith, unmarked.1)) h)) true_spare.free next_now)
       | inr marked ↦ subst (λ (v : BookValue). IsTrueTo g now.die.cells v start.table now.seq) (sym marked)
-          (spare_changes g start.die.cells now.die.cells start.book start.table start.seq now.seq spare false b.some_span b.tables spare_is s.taking.others s.taking.live
+          (spare_changes g start.die.cells now.die.cells start.book start.table start.seq now.seq spare false b.tables spare_is s.taking.others s.taking.live
           (λ e. absurd (false≢true e)) true_spare.free next_now)
     ])
 
     pub rows_now : SameRows g d start now
-    rows_now = rows_stay g d start.die.cells now.die.cells spare b.some_span s.taking.others s.taking.live free_spare
+    rows_now = rows_stay g d start.die.cells now.die.cells spare s.taking.others s.taking.live free_spare
 
     -- reads change nothing of this
     pub after_reads : (new : DieState) → SameCells now.die new → Kept now.die new → Inside g d spare start (record now { die = new }) records

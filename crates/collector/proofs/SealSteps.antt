@@ -115,7 +115,6 @@ module _ (g : Geometry) (meaning : Meaning) (victim spare : ℕ) (start now : St
       room = omega (arith, (has_shape g now.die shape_now shaped).bytes (spare * g.pages) first_there, two_slots g meaning.decoding victim spare start b);
       some = b.some_pages;
       one = one_slot g meaning victim spare start b;
-      spans = b.some_span;
       fresh = fresh_start g meaning.decoding victim spare start b;
       are_live = scanned_end g start.die.cells victim b.some_pages (one_slot g meaning victim spare start b) r.records r.scanned;
       few = omega (arith, all_copied, b.few);

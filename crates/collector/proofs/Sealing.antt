@@ -37,7 +37,6 @@ pub record Seals (g : Geometry) (d : Decoding) (victim spare seq : ℕ) (start c
   pub room : g.main_bytes + 31 < length (page_at cells (spare * g.pages))
   pub some : 0 < g.pages
   pub one : 1 ≤ g.generations
-  pub spans : 1 ≤ g.span
   pub fresh : (place : Place) (h : Header) → header_in g start place ≡ Some h → h.seq < seq
   pub are_live : AreLiveOf g start victim records
   pub few : length records < g.pages
@@ -210,7 +209,7 @@ module _ (g : Geometry) (d : Decoding) (victim spare seq : ℕ) (start cells new
         | inl is ↦ (let m = moved sector x e is in
             ap (said_by g d new) m.3 ∙ (copy_says m.0 m.1 ∙ (ap (λ (z : Placed). said_by g d start (Some z)) m.2 ∙ sym (ap (said_by g d start) e))))
         | inr not ↦ ap (said_by g d new) (others_live sector (ap (stands_in g victim) e ∙ not) ∙ e)
-            ∙ (said_stays g d start new spare s.spans only_since x (live_so g start sector x e).so.holds (s.free sector x e) ∙ sym (ap (said_by g d start) e))
+            ∙ (said_stays g d start new spare only_since x (live_so g start sector x e).so.holds (s.free sector x e) ∙ sym (ap (said_by g d start) e))
       ]
 
   -- ---- where the live records stand

@@ -161,7 +161,7 @@ module _ (g : Geometry) (d : Decoding) (victim spare : ℕ) (start now : Store) 
     above = λ u slot in_units above within. elim (cases_lt (u * g.span) (length records)) [
       | inl copied ↦ spare_slot g d victim spare start.seq start.die.cells now.die.cells new records s.seals (u * g.span) slot copied above within
       | inr past ↦ blank_slot g new (spare * g.pages + u * g.span)
-          (spare_blank g d victim spare start.seq start.die.cells now.die.cells new records s.seals s.some (u * g.span) past (unit_in_block g spare u s.begun.some_span in_units)) slot
+          (spare_blank g d victim spare start.seq start.die.cells now.die.cells new records s.seals s.some (u * g.span) past (unit_in_block g spare u in_units)) slot
     ];
   }
 
@@ -190,7 +190,7 @@ module _ (g : Geometry) (d : Decoding) (victim spare : ℕ) (start now : Store) 
         | inl same ↦ subst (IsTrueState g new block) (sym (ap (state_at (settled start.book victim spare (length records))) same ∙ settled_spare start.book victim spare (length records) s.begun.apart in_victim in_spare s.begun.tables.kept.counts))
             (subst (λ (v : ℕ). IsTrueActive g new v (length records)) (sym same) spare_active)
         | inr no_spare ↦ subst (IsTrueState g new block) (sym (settled_other start.book victim spare (length records) s.begun.apart in_victim in_spare s.begun.tables.kept.counts block no_victim no_spare))
-            (state_stays g start.die.cells new block s.begun.some_span (other_stays g d victim spare start.seq start.die.cells now.die.cells new records s.seals block no_spare no_victim)
+            (state_stays g start.die.cells new block (other_stays g d victim spare start.seq start.die.cells now.die.cells new records s.seals block no_spare no_victim)
             (state_at start.book block) (s.begun.tables.states block within))
       ]
     ];

@@ -50,10 +50,10 @@ spare_remarked v b marked is (spare, is_one, only) = (
 )
 
 module _ (g : Geometry) (old new : List (List ℕ)) (book : BookValue) (table : List (Option Entry)) (seq now spare : ℕ) (marked : Bool) where
-  pub spare_changes : 1 ≤ g.span → IsTrueTo g old book table seq → IsSpare book spare → OnlyIn g old new spare
+  pub spare_changes : IsTrueTo g old book table seq → IsSpare book spare → OnlyIn g old new spare
       → ((sector : ℕ) → live_record g new sector ≡ live_record g old sector) → (marked ≡ true → is_block_blank g new spare ≡ true) → live_count g old spare ≡ 0 → IsNextSeq g new now
       → IsTrueTo g new (with_state book spare (Spare marked)) table now
-  spare_changes spans t is others same blank free next = record {
+  spare_changes t is others same blank free next = record {
     live_counts = λ block within. t.live_counts block within ∙ sym (live_count_same g old new same block);
     entries = t.entries ∙ sym (live_map_same g old new same);
     one_spare = spare_remarked book spare marked is t.one_spare;
@@ -61,7 +61,7 @@ module _ (g : Geometry) (old new : List (List ℕ)) (book : BookValue) (table : 
       | inl here ↦ subst (IsTrueState g new block) (sym (ap (state_at (with_state book spare (Spare marked))) here ∙ state_here book spare (Spare marked) (spare_within book spare is)))
           (subst (λ (b : ℕ). IsTrueSpare g new b marked) (sym here) (record { free = live_count_same g old new same spare ∙ free; blank = blank }))
       | inr other ↦ subst (IsTrueState g new block) (sym (state_there book spare block (Spare marked) other))
-          (state_stays g old new block spans (record {
+          (state_stays g old new block (record {
             pages = λ page here. others page (λ e. other (sym here ∙ e));
             live = λ sector placed e here. sym (same sector) ∙ e;
             count = live_count_same g old new same block;

@@ -1,7 +1,8 @@
 -- What a block's state says of the cells stays where its pages and its live records stay.
 use Rattle.std.proofs.Common.{◌≡◌, inl, inr, ℕ, zero, suc, ◌+◌, ◌*◌, ◌/◌, ◌<◌, ◌≤◌, Bool, true, false, List, [], ◌&&◌, drop, refl, sym, ap, ap₂, ◌∙◌, arith, subst, Some}
 use Rattle.std.specs.List.{list_all, range_with_len}
-use Rattle.std.proofs.lemmas.Bool.{and_parts, and_from}
+use Rattle.std.proofs.lemmas.Bool.{cases_lt, and_parts, and_from}
+use Rattle.std.proofs.Math.Nat.{div-zero}
 use Rattle.std.proofs.lemmas.Nat.{div-mul-add, div-add-mod'}
 use native.Mathlib.Nat.{mul-le-mul_right, suc-mul}
 use Rattle.cell_die.specs.Cells.{page_at, is_blank}
@@ -17,8 +18,15 @@ use Rattle.page_codec.specs.TrueBook.{IsTrueState, BlankAbove, is_block_blank}
 pub page_in_block : (g : Geometry) (block i : ℕ) → i < g.pages → block_of g (block * g.pages + i) ≡ block
 page_in_block g block i h = div-mul-add block g.pages i h
 
-pub unit_in_block : (g : Geometry) (block u : ℕ) → 1 ≤ g.span → u < units g → u * g.span < g.pages
-unit_in_block g block u spans h =
+pub span_of_units : (g : Geometry) (u : ℕ) → u < units g → 1 ≤ g.span
+span_of_units g u h = elim (cases_lt 0 g.span) [
+  | inl some ↦ some
+  | inr none ↦ absurd (let zero_span : g.span ≡ 0 = omega arith in let no_units : units g ≡ 0 = ap (λ (n : ℕ). g.pages / n) zero_span ∙ div-zero g.pages in omega arith)
+]
+
+pub unit_in_block : (g : Geometry) (block u : ℕ) → u < units g → u * g.span < g.pages
+unit_in_block g block u h =
+    let spans : 1 ≤ g.span = span_of_units g u h in
     let more : u + 1 ≤ g.pages / g.span = omega arith in
     omega (arith, mul-le-mul_right g.span more, suc-mul u g.span, div-add-mod' g.pages g.span)
 
@@ -50,12 +58,12 @@ pub record BlockStays (g : Geometry) (old new : List (List ℕ)) (block : ℕ) :
   pub live : (sector : ℕ) (placed : Placed) → live_record g new sector ≡ Some placed → block_of g placed.place.page ≡ block → live_record g old sector ≡ Some placed
   pub count : live_count g new block ≡ live_count g old block
 
-module _ (g : Geometry) (old new : List (List ℕ)) (block : ℕ) (spans : 1 ≤ g.span) (s : BlockStays g old new block) where
+module _ (g : Geometry) (old new : List (List ℕ)) (block : ℕ) (s : BlockStays g old new block) where
   page_same : (i : ℕ) → i < g.pages → page_at new (block * g.pages + i) ≡ page_at old (block * g.pages + i)
   page_same i h = s.pages (block * g.pages + i) (page_in_block g block i h)
 
   slot_same : (u slot : ℕ) → u < units g → is_slot_blank (spare_at g new (unit_page g block u)) slot ≡ is_slot_blank (spare_at g old (unit_page g block u)) slot
-  slot_same u slot h = ap (λ (bytes : List ℕ). is_slot_blank (drop g.main_bytes bytes) slot) (page_same (u * g.span) (unit_in_block g block u spans h))
+  slot_same u slot h = ap (λ (bytes : List ℕ). is_slot_blank (drop g.main_bytes bytes) slot) (page_same (u * g.span) (unit_in_block g block u h))
 
   above_stays : (level : ℕ) → BlankAbove g old block level → BlankAbove g new block level
   above_stays level a u slot h l m = slot_same u slot h ∙ a u slot h l m

@@ -112,7 +112,6 @@ pub record Begun (g : Geometry) (victim spare : ℕ) (start : Store) : Type 0 wh
   pub shape : start.die.shape ≡ shape_of g
   pub fresh : start.seq < 2 ^ 62
   pub some_pages : 0 < g.pages
-  pub some_span : 1 ≤ g.span
   pub victim_there : victim < g.blocks
   pub spare_there : spare < g.blocks
   pub apart : victim ≢ spare

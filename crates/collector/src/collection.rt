@@ -76,7 +76,6 @@ fn collect_into<D: Die, C: Scheme>(
     requires scheme { ServesScheme work.old (C.meaning scheme.old) }
     requires small_sector { (C.meaning scheme.old).sector_bytes ≤ 512 }
     requires small_page { (C.meaning scheme.old).page_bytes ≤ 1200 }
-    requires some_span { 1 ≤ (C.meaning scheme.old).span }
     requires tables { IsTrue (geometry_of (D.state die.old).shape (C.meaning scheme.old) (length map.old)) (D.state die.old).cells book.old map.old seq.old }
     requires fresh { seq.old < 2 ^ 62 }
     requires branch { IsCollectBranch book.old victim spare }
@@ -115,7 +114,6 @@ pub fn collect<D: Die, C: Scheme>(
     requires scheme { ServesScheme work.old (C.meaning scheme.old) }
     requires small_sector { (C.meaning scheme.old).sector_bytes ≤ 512 }
     requires small_page { (C.meaning scheme.old).page_bytes ≤ 1200 }
-    requires some_span { 1 ≤ (C.meaning scheme.old).span }
     requires tables { IsTrue (geometry_of (D.state die.old).shape (C.meaning scheme.old) (length map.old)) (D.state die.old).cells book.old map.old seq.old }
     requires fresh { seq.old < 2 ^ 62 }
     requires branch { (victim : ℕ) × (spare : ℕ) × IsCollectBranch book.old victim spare × (live_at book.old victim < book.old.pages) }
