@@ -4,11 +4,11 @@ use Rattle.std.proofs.lemmas.Bool.{cases_eq, cases_lt, eq-eqb, ne_eqb, false≢t
 use Rattle.std.proofs.lemmas.List.{get_or_past}
 use Rattle.block_links.specs.Lists.{times, without}
 use Rattle.block_state.specs.declared.state.State.{State}
-use Rattle.block_state.specs.declared.state.State.TheVariants.{Clean, Active, Used, Recycled, Reused, Spare}
+use Rattle.block_state.specs.declared.state.State.TheVariants.{Clean, Active}
 use Rattle.block_state.specs.State.{is_closed, is_active, is_spare, InRange}
 use Rattle.block_state.specs.Book.{BookValue, IsValid, IsActive, IsSpare, HasOneSpare, state_at, live_at, with_state, with_live}
 use Rattle.block_state.proofs.Order.{times-reordered_same, times-reordered_other, times-moved_back}
-use Rattle.collector.specs.Effects.{one_less, recorded, filled, fill_of, MayDrop}
+use Rattle.collector.specs.Effects.{recorded, MayDrop}
 
 -- ---- a block gets another state
 
@@ -23,6 +23,12 @@ pub active_within : (v : BookValue) (b fill : ℕ) → state_at v b ≡ Active f
 active_within v b fill e = elim (cases_lt b (length v.states)) [
   | inl within ↦ within
   | inr past ↦ absurd (false≢true (sym (ap is_active (get_or_past v.states b Clean past)) ∙ ap is_active e))
+]
+
+pub spare_within : (v : BookValue) (b : ℕ) → IsSpare v b → b < length v.states
+spare_within v b e = elim (cases_lt b (length v.states)) [
+  | inl within ↦ within
+  | inr past ↦ absurd (false≢true (sym (ap is_spare (get_or_past v.states b Clean past)) ∙ e))
 ]
 
 pub valid_state : (v : BookValue) (b : ℕ) (s : State) → IsValid v → b < length v.states → InRange v.pages v.units v.generations s
