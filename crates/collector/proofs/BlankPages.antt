@@ -1,15 +1,12 @@
 -- A blank page has no header, gate or seal, and its slots are blank.
-use Rattle.std.proofs.Common.{◌≡◌, ℕ, zero, suc, ◌+◌, ◌-◌, ◌*◌, ◌/◌, ◌%◌, ◌<◌, ◌≤◌, Bool, true, false, List, [], ◌∷◌, take, drop, length, ◌&&◌, ◌==◌, get_or, slice_index, Option, Some, None, refl, sym, ap, ap₂, ◌∙◌, arith, subst, get_or-take, get_or-drop}
+use Rattle.std.proofs.Common.{◌≡◌, ℕ, zero, suc, ◌+◌, ◌-◌, ◌*◌, ◌/◌, ◌%◌, Bool, true, false, List, [], ◌∷◌, take, drop, ◌&&◌, ◌==◌, get_or, Some, refl, ap, ap₂, ◌∙◌, arith}
 use Rattle.std.specs.Int.{bit_at}
 use Rattle.std.proofs.lemmas.Bool.{and_parts, and_from, eqb-true}
 use Rattle.std.proofs.lemmas.Nat.Bits.{bit_at-zero}
 use Rattle.zero_count.specs.declared.Header.{Header}
-use Rattle.zero_count.specs.HeaderWord.{header_of}
 use Rattle.zero_count.proofs.ValidWords.{valid_parts}
 use Rattle.cell_die.specs.Cells.{page_at, is_blank, is_charged}
-use Rattle.cell_bits.proofs.Slices.{charged_rest}
 use Rattle.spare_gate.specs.Slots.{word_at, is_gate_charged, is_seal_charged, is_slot_blank}
-use Rattle.page_codec.specs.declared.place.Place.{Place}
 use Rattle.page_codec.specs.Geometry.{Geometry, spare_at}
 use Rattle.page_codec.specs.Records.{header_in}
 use Rattle.page_codec.proofs.Within.{header_valid}

@@ -1,9 +1,9 @@
 -- A block that is not closed gets one state after another.
-use Rattle.std.proofs.Common.{◌≡◌, ◌≢◌, inl, inr, ℕ, zero, suc, ◌<◌, Bool, true, false, List, [], ◌∷◌, get_or, slice_set, length, refl, sym, ap, ap₂, ◌∙◌, arith}
+use Rattle.std.proofs.Common.{◌≡◌, ℕ, zero, suc, ◌<◌, Bool, true, false, List, [], ◌∷◌, get_or, slice_set, length, refl, sym, ap, ◌∙◌}
 use Rattle.block_state.specs.declared.state.State.{State}
 use Rattle.block_state.specs.declared.state.State.TheVariants.{Clean}
 use Rattle.block_state.specs.State.{is_closed}
-use Rattle.block_state.specs.Book.{BookValue, state_at, live_at, with_state, reordered}
+use Rattle.block_state.specs.Book.{BookValue, state_at, with_state, reordered}
 use Rattle.collector.proofs.Books.{state_here}
 
 pub set_twice : {X : Type 0} (xs : List X) (i : ℕ) (a b : X) → slice_set (slice_set xs i a) i b ≡ slice_set xs i b

@@ -1,9 +1,8 @@
 -- The book and the map after the seal, move by move.
-use Rattle.std.proofs.Common.{◌≡◌, ◌≢◌, inl, inr, ℕ, ◌+◌, ◌<◌, ◌≤◌, Bool, true, false, List, length, slice_set, if◌then◌else◌, Option, Some, None, refl, sym, ap, ap₂, ◌∙◌, subst, arith, length-set, get_or-set_same, get_or-set_other, take, get_or-take}
-use Rattle.std.proofs.lemmas.Bool.{cases_eq, cases_lt, cond-false}
+use Rattle.std.proofs.Common.{◌≡◌, inl, inr, ℕ, ◌+◌, ◌<◌, false, List, length, slice_set, Option, Some, None, refl, sym, ap, ◌∙◌, subst, arith, length-set, get_or-set_same, get_or-set_other, take, get_or-take}
+use Rattle.std.proofs.lemmas.Bool.{cases_eq, cond-false}
 use Rattle.sector_map.specs.declared.entry.Entry.{Entry}
 use Rattle.sector_map.specs.Entry.{entry_at}
-use Rattle.block_links.specs.Lists.{without}
 use Rattle.block_state.specs.State.{is_closed}
 use Rattle.block_state.specs.Book.{BookValue, state_at, live_at, with_live}
 use Rattle.collector.specs.declared.moves.Move.{Move}

@@ -1,14 +1,14 @@
 -- An erase of the Spare: whole, it leaves the tables true and every stored sector; torn, it does so on sound cells.
-use Rattle.std.proofs.Common.{◌≡◌, ◌≢◌, ◌⊎◌, inl, inr, ℕ, ◌+◌, ◌*◌, ◌-◌, ◌^◌, ◌<◌, ◌≤◌, Bool, true, false, List, length, drop, replicate, Option, Some, None, refl, sym, ap, ◌∙◌, subst, arith}
+use Rattle.std.proofs.Common.{◌≡◌, ◌⊎◌, inl, inr, ℕ, ◌+◌, ◌*◌, ◌<◌, ◌≤◌, true, List, drop, Option, Some, refl, sym, ap, ◌∙◌, subst, arith}
 use Rattle.std.proofs.lemmas.Bool.{cases_eq, false≢true, false_from_ne_true}
 use Rattle.zero_count.specs.declared.Header.{Header}
 use Rattle.zero_count.specs.HeaderWord.{header_of}
-use Rattle.cell_die.specs.Cells.{page_at, is_blank, IsAbove, is_charged, blank_page}
+use Rattle.cell_die.specs.Cells.{page_at, is_blank, IsAbove, is_charged}
 use Rattle.cell_die.specs.Pads.{NoPadCharged}
 use Rattle.cell_die.specs.Counts.{Rose, Stayed}
 use Rattle.cell_die.specs.DieState.{DieState, IsShaped, page_of, page_bytes}
 use Rattle.cell_die.specs.Changes.{SameCells, OnlyBlock, IsErased, ErasedInPart}
-use Rattle.cell_die.specs.Calls.{Kept, Passed, ChangeFailed}
+use Rattle.cell_die.specs.Calls.{Kept, ChangeFailed}
 use Rattle.cell_die.proofs.CellLaws.{above_blank}
 use Rattle.cell_die.proofs.Sequences.{kept_refl}
 use Rattle.cell_bits.proofs.Above.{keeps}
@@ -20,18 +20,18 @@ use Rattle.sector_map.specs.declared.entry.Entry.{Entry}
 use Rattle.block_state.specs.declared.state.State.{State}
 use Rattle.block_state.specs.declared.state.State.TheVariants.{Clean, Active, Used, Recycled, Reused, Spare}
 use Rattle.block_state.specs.State.{is_spare}
-use Rattle.block_state.specs.Book.{BookValue, IsSpare, state_at, with_state}
+use Rattle.block_state.specs.Book.{BookValue, IsSpare, state_at}
 use Rattle.page_codec.specs.declared.place.Place.{Place}
-use Rattle.page_codec.specs.Geometry.{Geometry, HasShape, shape_of, block_of, spare_at}
-use Rattle.page_codec.specs.Records.{Placed, header_in, live_record}
+use Rattle.page_codec.specs.Geometry.{Geometry, HasShape, shape_of, block_of}
+use Rattle.page_codec.specs.Records.{header_in, live_record}
 use Rattle.page_codec.specs.Sound.{IsSound, live_count}
 use Rattle.page_codec.specs.Sectors.{stored}
-use Rattle.page_codec.specs.TrueBook.{IsTrue as IsTrueTo, IsTrueState, IsNextSeq, is_block_blank}
+use Rattle.page_codec.specs.TrueBook.{IsTrueState, IsNextSeq}
 use Rattle.page_codec.proofs.Live.{live_counts, vanishing_keeps}
 use Rattle.page_codec.proofs.PutFirst.{blank_zeros}
-use Rattle.page_codec.proofs.SoundErase.{TearsBlock, tear_keeps_live, tear_keeps_sound, tear_keeps_stored}
+use Rattle.page_codec.proofs.SoundErase.{TearsBlock, tear_keeps_live, tear_keeps_sound}
 use Rattle.page_codec.proofs.Within.{header_valid, header_within}
-use Rattle.collector.specs.Store.{Store, store, IsTrueStore, SameRows, DrewSeqs, Holds}
+use Rattle.collector.specs.Store.{Store, store, IsTrueStore, SameRows, Holds}
 use Rattle.collector.specs.Steps.{MadeBlank, was_blank, was_erased}
 use Rattle.collector.proofs.BlankPages.{blank_header}
 use Rattle.collector.proofs.Books.{state_here}
@@ -149,7 +149,7 @@ falls_whole g old new block shape shaped within erased only = record {
   fell = λ page here.
       let there = (has_shape g old shape shaped).bytes page (page_there g page block (some_pages g old shape shaped) here within) in
       subst (IsAbove (page_of old page)) (sym (erased.blank page (same_block g old page shape ∙ here)))
-          (above_blank (page_of old page) (page_bytes old.shape) (there ∙ sym (ap page_bytes shape)));
+      (above_blank (page_of old page) (page_bytes old.shape) (there ∙ sym (ap page_bytes shape)));
 }
 
 clears_whole : (g : Geometry) (old new : DieState) (block : ℕ) → old.shape ≡ shape_of g → IsErased block old new → OnlyBlock block old new → Clears g old.cells new.cells block

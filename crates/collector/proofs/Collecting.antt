@@ -1,34 +1,32 @@
 -- A collection is an erase, if there is one, and then the copies and their seal.
-use Rattle.std.proofs.Common.{◌≡◌, ◌≢◌, ◌⊎◌, inl, inr, ℕ, ◌+◌, ◌-◌, ◌*◌, ◌^◌, ◌<◌, ◌≤◌, Bool, true, false, IsTrue, List, length, if◌then◌else◌, Option, Some, None, Result, Ok, Err, IfOk, refl, sym, ap, ap₂, ◌∙◌, subst, arith}
+use Rattle.std.proofs.Common.{◌≡◌, ◌≢◌, ◌⊎◌, inl, inr, ℕ, ◌+◌, ◌*◌, ◌^◌, ◌<◌, true, false, List, length, if◌then◌else◌, Option, Some, None, Result, Ok, Err, IfOk, refl, sym, ap, ◌∙◌, subst, arith}
 use Rattle.std.specs.List.{sum_by, range_with_len}
 use Rattle.std.proofs.lemmas.Bool.{cases_eq, cases_lt, false≢true}
 use Rattle.std.proofs.lemmas.List.{get_or_past}
 use Rattle.cell_die.specs.declared.shape.Shape.{Shape}
 use Rattle.cell_die.specs.Counts.{Stayed}
-use Rattle.cell_die.specs.DieState.{DieState, IsShaped, Failures}
-use Rattle.cell_die.specs.Changes.{SameCells, OnlyBlock, ErasedInPart}
-use Rattle.cell_die.specs.Calls.{Kept, WhilePowered, Nearer, NearerWithin, Passed, PassedWithin, ChangeFailed}
+use Rattle.cell_die.specs.DieState.{DieState, Failures}
+use Rattle.cell_die.specs.Calls.{WhilePowered, Nearer, NearerWithin, Passed, PassedWithin, ChangeFailed}
 use Rattle.cell_die.proofs.Sequences.{kept_trans, change_failed_after, change_failed_within, read_failed_after, read_failed_within}
 use Rattle.striped.specs.Meaning.{Meaning, Decoding}
 use Rattle.sector_map.specs.declared.entry.Entry.{Entry}
 use Rattle.block_state.specs.declared.state.State.{State}
 use Rattle.block_state.specs.declared.state.State.TheVariants.{Clean, Active, Used, Recycled, Reused, Spare}
 use Rattle.block_state.specs.State.{is_closed, is_active, is_spare}
-use Rattle.block_state.specs.Book.{BookValue, IsClosed, IsActive, IsSpare, NoneActive, state_at, live_at, with_state}
+use Rattle.block_state.specs.Book.{BookValue, IsClosed, IsSpare, NoneActive, state_at, live_at, with_state}
 use Rattle.page_alloc.specs.CleanPage.{IsCollectBranch}
 use Rattle.page_codec.specs.declared.fault.PutFault.{PutFault}
 use Rattle.page_codec.specs.declared.fault.PutFault.TheVariants.{Read, Change}
 use Rattle.page_codec.specs.Geometry.{Geometry, shape_of}
-use Rattle.page_codec.specs.Records.{Placed, live_record}
+use Rattle.page_codec.specs.Records.{live_record}
 use Rattle.page_codec.specs.Sizes.{Sizes, Serves, ServesScheme}
 use Rattle.page_codec.specs.Sound.{IsSound, stands_in}
-use Rattle.collector.specs.Collections.{AreLiveOf, Collected, CollectReadFailed, CollectChangeFailed, Marks, as_it_was, erased, copied_to, erased_and_copied_to, collection_calls, collection_reads, erase_calls, get_reads}
-use Rattle.collector.specs.Effects.{sealed}
+use Rattle.collector.specs.Collections.{Collected, CollectReadFailed, CollectChangeFailed, Marks, as_it_was, erased, copied_to, erased_and_copied_to, collection_calls, collection_reads, erase_calls, get_reads}
 use Rattle.collector.specs.Inside.{Begun, CollectEnds}
 use Rattle.collector.specs.Steps.{MadeBlank, was_blank, was_erased}
 use Rattle.collector.specs.Store.{Store, store, geometry_of, Holds}
 use Rattle.collector.proofs.Books.{state_here, state_there}
-use Rattle.collector.proofs.Clearing.{SparesIn, BlankedSo, TornSo, blanked, spare_there, page_there_is}
+use Rattle.collector.proofs.Clearing.{SparesIn, BlankedSo, TornSo, spare_there, page_there_is}
 use Rattle.collector.proofs.Settled.{settled_again}
 use Rattle.collector.proofs.Sparing.{spare_within}
 

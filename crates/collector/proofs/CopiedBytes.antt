@@ -1,5 +1,5 @@
 -- A copy of a record of bytes: the page decodes to what the record decodes to.
-use Rattle.std.proofs.Common.{◌≡◌, inl, inr, ℕ, ◌+◌, ◌<◌, Bool, true, false, List, take, drop, length, if◌then◌else◌, Result, Ok, Err, is_err, OnOk, OnErr, refl, sym, ap, ap₂, ◌∙◌, subst, add-zero}
+use Rattle.std.proofs.Common.{◌≡◌, ℕ, ◌+◌, Bool, false, List, take, drop, if◌then◌else◌, Result, Ok, Err, is_err, OnOk, refl, sym, ap, ap₂, ◌∙◌, subst, add-zero}
 use Rattle.std.proofs.lemmas.Bool.{false≢true, cond-false}
 use Rattle.zero_count.specs.declared.Header.{Header}
 use Rattle.cell_die.specs.declared.shape.Shape.{Shape}
@@ -13,9 +13,8 @@ use Rattle.spare_gate.specs.Slots.{with_record}
 use Rattle.block_state.specs.declared.state.State.TheVariants.{Spare}
 use Rattle.block_state.specs.Book.{BookValue, with_state}
 use Rattle.page_codec.specs.declared.place.Place.{Place}
-use Rattle.page_codec.specs.Geometry.{Geometry}
-use Rattle.page_codec.specs.Promises.{IsSlotOf, Keeps, KeepsRecords}
-use Rattle.page_codec.specs.Puts.{Puts, FirstCarries, first_slot, spare_of, is_gated}
+use Rattle.page_codec.specs.Promises.{Keeps, KeepsRecords}
+use Rattle.page_codec.specs.Puts.{Puts, FirstCarries, first_slot, spare_of}
 use Rattle.page_codec.specs.Sectors.{says_zeros}
 use Rattle.page_codec.specs.Units.{decoded_at, reads_of}
 use Rattle.collector.specs.Steps.{copied_header, copy_reads, DecodesTo, DecodesInto, PutsDrawn}

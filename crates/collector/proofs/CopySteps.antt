@@ -1,38 +1,34 @@
 -- A copy of the live record at the cursor: where it ends well the collection has come one slot further with one copy more, and
 -- where a change call of it fails all sectors stay.
-use Rattle.std.proofs.Common.{◌≡◌, ◌≢◌, ◌⊎◌, inl, inr, ℕ, ◌+◌, ◌*◌, ◌^◌, ◌<◌, ◌≤◌, Bool, true, false, List, [], ◌∷◌, ◌++◌, length, take, drop, ◌==◌, if◌then◌else◌, slice_index_or, slice_set, Option, Some, None, refl, sym, ap, ap₂, ◌∙◌, subst, arith, get_or-set_same, get_or-set_other}
+use Rattle.std.proofs.Common.{◌≡◌, ◌≢◌, ◌⊎◌, inl, inr, ℕ, ◌+◌, ◌*◌, ◌^◌, ◌<◌, ◌≤◌, Bool, true, false, List, [], ◌∷◌, ◌++◌, length, take, drop, ◌==◌, if◌then◌else◌, Some, refl, sym, ap, ap₂, ◌∙◌, subst, arith}
 use Rattle.std.specs.List.{flat_map, range_with_len}
-use Rattle.std.proofs.lemmas.Bool.{cases_eq, cases_lt, cases_Bool, cond-true, cond-false, eq-eqb, false≢true}
+use Rattle.std.proofs.lemmas.Bool.{cases_lt, cases_Bool, cond-true, cond-false}
 use native.Mathlib.Nat.{mul-le-mul_right, suc-mul}
 use Rattle.zero_count.specs.declared.Header.{Header}
 use Rattle.zero_count.specs.HeaderWord.{IsHeader}
 use Rattle.cell_die.specs.declared.shape.Shape.{Shape}
-use Rattle.cell_die.specs.Cells.{page_at, is_blank}
-use Rattle.cell_die.specs.Counts.{Rose, Stayed}
+use Rattle.cell_die.specs.Cells.{page_at}
+use Rattle.cell_die.specs.Counts.{Stayed}
 use Rattle.cell_die.specs.DieState.{DieState, IsShaped, page_of}
-use Rattle.cell_die.specs.Changes.{SameCells}
-use Rattle.cell_die.specs.Calls.{Kept, Passed, ChangeFailed, ReadFailed}
-use Rattle.cell_die.specs.Pads.{NoPadCharged}
+use Rattle.cell_die.specs.Calls.{Kept}
 use Rattle.cell_die.proofs.Sequences.{kept_trans}
 use Rattle.striped.specs.Meaning.{Meaning}
 use Rattle.spare_gate.specs.Slots.{is_gate_charged}
-use Rattle.block_state.specs.declared.state.State.TheVariants.{Spare}
-use Rattle.block_state.specs.Book.{BookValue, live_at, with_state}
-use Rattle.page_codec.specs.declared.place.Place.{Place}
-use Rattle.page_codec.specs.Geometry.{Geometry, block_of, page_count, shape_of, spare_at, main_at}
-use Rattle.page_codec.specs.Promises.{IsSlotOf, IsFresh, Keeps, KeepsRecords}
-use Rattle.page_codec.specs.Puts.{Puts, first_slot, is_gated}
-use Rattle.page_codec.specs.Records.{Placed, header_in, live_record}
+use Rattle.block_state.specs.Book.{BookValue, live_at}
+use Rattle.page_codec.specs.Geometry.{Geometry, block_of, page_count, shape_of, spare_at}
+use Rattle.page_codec.specs.Promises.{IsFresh, Keeps, KeepsRecords}
+use Rattle.page_codec.specs.Puts.{first_slot, is_gated}
+use Rattle.page_codec.specs.Records.{Placed, live_record}
 use Rattle.page_codec.specs.Sectors.{says_zeros, zero_sector, said_by, stored}
-use Rattle.page_codec.specs.Sound.{IsSound, live_count}
+use Rattle.page_codec.specs.Sound.{IsSound}
 use Rattle.page_codec.specs.Units.{decoded_at}
 use Rattle.page_codec.proofs.PutLaws.{PutsCells, header_after}
 use Rattle.page_codec.proofs.PutCells.{put_cells}
 use Rattle.page_codec.proofs.SoundErase.{live_count_same}
-use Rattle.collector.specs.Collections.{Marks, as_it_was, copied_to, copy_of, copied_kind, nth}
-use Rattle.collector.specs.Inside.{Scanned, Taking, Inside, Begun, number_of, passed_count}
+use Rattle.collector.specs.Collections.{copy_of}
+use Rattle.collector.specs.Inside.{Scanned, Inside, Begun, number_of}
 use Rattle.collector.specs.Steps.{PutsDrawn, DecodesTo, copied_header}
-use Rattle.collector.specs.Store.{Store, store, SameRows, DrewSeqs, Holds}
+use Rattle.collector.specs.Store.{Store, store, Holds}
 use Rattle.collector.proofs.Committed.{live_so}
 use Rattle.collector.proofs.Copying.{PutsCopy, copy_leaves_live, copy_leaves_others, one_copy_more}
 use Rattle.collector.proofs.Elsewhere.{said_stays, rows_stay}

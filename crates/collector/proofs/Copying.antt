@@ -1,17 +1,17 @@
 -- One copy more: its put leaves the facts inside a collection, and torn it changes no live record.
-use Rattle.std.proofs.Common.{◌≡◌, ◌≢◌, ◌⊎◌, inl, inr, ℕ, ◌+◌, ◌*◌, ◌^◌, ◌<◌, ◌≤◌, Bool, true, false, List, [], ◌∷◌, ◌++◌, length, take, drop, ◌==◌, ◌||◌, if◌then◌else◌, Some, None, refl, sym, ap, ap₂, ◌∙◌, subst, arith}
-use Rattle.std.proofs.lemmas.Bool.{cases_eq, cases_lt, cases_Bool, and_from, lt-ltb}
+use Rattle.std.proofs.Common.{◌≡◌, ◌≢◌, inl, inr, ℕ, ◌+◌, ◌*◌, ◌<◌, ◌≤◌, Bool, true, false, List, [], ◌∷◌, ◌++◌, length, take, drop, ◌==◌, ◌||◌, if◌then◌else◌, Some, None, refl, sym, ap, ◌∙◌, subst, arith}
+use Rattle.std.proofs.lemmas.Bool.{cases_lt, and_from, lt-ltb}
 use native.Mathlib.Nat.{mul-le-mul_right, suc-mul}
 use Rattle.zero_count.specs.declared.Header.{Header}
 use Rattle.zero_count.specs.HeaderWord.{IsHeader}
 use Rattle.cell_die.specs.Cells.{page_at, is_blank}
 use Rattle.striped.specs.Meaning.{Decoding}
-use Rattle.spare_gate.specs.Slots.{header_at, is_gate_charged, is_slot_blank, with_header, with_record, gate_cell_of}
+use Rattle.spare_gate.specs.Slots.{header_at, is_gate_charged, is_slot_blank, with_header, with_record}
 use Rattle.spare_gate.proofs.Blank.{header_keeps_blank, gate_keeps_blank}
 use Rattle.page_codec.specs.declared.place.Place.{Place}
 use Rattle.page_codec.specs.Geometry.{Geometry, block_of, page_count, spare_at}
 use Rattle.page_codec.specs.Promises.{HoldsRecord}
-use Rattle.page_codec.specs.Records.{Placed, may_hold, header_in, below_sectors, record_in, is_copy, is_sealed, live_record}
+use Rattle.page_codec.specs.Records.{Placed, may_hold, below_sectors, record_in, is_copy, is_sealed, live_record}
 use Rattle.page_codec.specs.Sectors.{said_by, says_zeros, zero_sector}
 use Rattle.page_codec.proofs.PutLaws.{PutsCells, header_after, seal_stays}
 use Rattle.collector.specs.Collections.{copied_kind, copy_of, nth}
@@ -109,7 +109,7 @@ module _ (g : Geometry) (d : Decoding) (spare seq : ℕ) (start old new : List (
           (copied_stays g d start old new spare seq (nth records i) i (p.only (spare * g.pages + i) (λ e. omega (arith, e, was))) (p.taking.copied i was))
       | inr past ↦ (let last : i ≡ length records = omega (arith, h, past, length_push records x) in
           subst (λ (z : Placed). IsCopied g d start new spare seq z i) (sym (nth_last records x i last))
-              (subst (λ (j : ℕ). IsCopied g d start new spare seq x j) (sym last) own_copy))
+          (subst (λ (j : ℕ). IsCopied g d start new spare seq x j) (sym last) own_copy))
     ];
     blank = λ i from within. ap is_blank (p.only (spare * g.pages + i) (λ e. omega (arith, e, from, length_push records x))) ∙ p.taking.blank i (omega (arith, from, length_push records x)) within;
     live = copy_leaves_live;

@@ -4,7 +4,6 @@ use Rattle.std.specs.List.{flat_map, range_with_len}
 use Rattle.std.proofs.lemmas.Bool.{and_parts, or_cases, eqb-true, ltb-true, false≢true, eq-eqb}
 use Rattle.std.proofs.lemmas.Nat.{div-mul-add, div-add-mod'}
 use native.Mathlib.Nat.{mul-le-mul_right, suc-mul}
-use Rattle.zero_count.specs.declared.Header.{Header}
 use Rattle.cell_die.specs.Cells.{page_at}
 use Rattle.striped.specs.Meaning.{Decoding}
 use Rattle.spare_gate.specs.Slots.{is_gate_charged, is_seal_charged, word_at}

@@ -1,13 +1,12 @@
 -- At a slot with a live record there is a blank page left for its copy, and room to note it.
-use Rattle.std.proofs.Common.{◌≡◌, ◌≢◌, ◌⊎◌, inl, inr, ℕ, ◌+◌, ◌-◌, ◌*◌, ◌/◌, ◌%◌, ◌^◌, ◌<◌, ◌≤◌, Bool, true, false, List, length, drop, ◌==◌, if◌then◌else◌, slice_set, Option, Some, None, Result, Ok, Err, refl, sym, ap, ap₂, ◌∙◌, subst, arith}
+use Rattle.std.proofs.Common.{◌≡◌, inl, inr, ℕ, ◌+◌, ◌-◌, ◌*◌, ◌%◌, ◌^◌, ◌<◌, ◌≤◌, true, false, List, length, drop, ◌==◌, if◌then◌else◌, slice_set, Some, Ok, Err, refl, sym, ap, ap₂, ◌∙◌, subst, arith}
 use Rattle.std.proofs.lemmas.Bool.{cases_eq, cond-true, cond-false, eq-eqb, ne_eqb}
 use native.Mathlib.Nat.{mul-le-mul_right, suc-mul}
 use Rattle.zero_count.specs.declared.Header.{Header}
 use Rattle.zero_count.specs.HeaderWord.{header_of}
 use Rattle.cell_die.specs.Cells.{page_at, is_blank}
 use Rattle.cell_die.specs.DieState.{DieState, IsShaped}
-use Rattle.cell_die.specs.Changes.{SameCells}
-use Rattle.cell_die.specs.Calls.{Kept, Passed, ChangeFailed, ReadFailed}
+use Rattle.cell_die.specs.Calls.{Kept}
 use Rattle.spare_gate.specs.Slots.{word_at}
 use Rattle.striped.specs.Meaning.{Meaning}
 use Rattle.sector_map.specs.Entry.{entry_at}
@@ -24,7 +23,7 @@ use Rattle.page_codec.proofs.Live.{holds_within}
 use Rattle.collector.specs.declared.moves.Move.{Move}
 use Rattle.collector.specs.Collections.{collection_reads, get_reads}
 use Rattle.page_codec.specs.Sectors.{says_zeros}
-use Rattle.collector.specs.Inside.{Stands, TurnEnds, Reached, Begun, ReadStopped, ChangeStopped, number_of, names_place, passed_gets}
+use Rattle.collector.specs.Inside.{Stands, TurnEnds, Reached, ReadStopped, number_of, names_place, passed_gets}
 use Rattle.collector.specs.Settles.{move_of}
 use Rattle.collector.specs.Steps.{PutsDrawn, DecodesTo, copied_header, copy_reads, CopyEnds}
 use Rattle.collector.specs.Store.{Store, store}
@@ -35,7 +34,7 @@ use Rattle.collector.proofs.Named.{named_there, unnamed_none}
 use Rattle.collector.proofs.Passing.{count_take, count_few, gets_take, gets_few}
 use Rattle.collector.proofs.Reaching.{two_slots, live_is, spare_still}
 use Rattle.collector.proofs.Shapes.{page_there}
-use Rattle.collector.proofs.Stops.{reached_skip, reached_take, read_stops, change_stops, reads_within}
+use Rattle.collector.proofs.Stops.{reached_skip, reached_take, read_stops, change_stops}
 
 -- the live record in a slot
 abbrev pub placed_at : Place → Header → Placed
@@ -157,7 +156,7 @@ module _ (g : Geometry) (meaning : Meaning) (spare : ℕ) (start now : Store) (p
           omega (
             arith,
             same,
-                s.few_pages,
+            s.few_pages,
             gets_take g start.die.cells (block_of g place.page) one_slot (number_of g place) (placed_at place h) live refl refl,
             gets_few g start.die.cells (block_of g place.page) s.begun.some_pages one_slot (number_of g place + 1),
           )

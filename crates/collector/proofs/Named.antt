@@ -1,23 +1,19 @@
 -- A slot's record is live exactly where the map's entry of its sector names that slot.
-use Rattle.std.proofs.Common.{◌≡◌, ◌≢◌, ◌⊎◌, inl, inr, ℕ, ◌+◌, ◌<◌, ◌≤◌, Bool, true, false, List, length, drop, ◌==◌, ◌&&◌, Option, Some, None, refl, sym, ap, ap₂, ◌∙◌, subst, arith, if◌then◌else◌}
-use Rattle.std.specs.List.{range_with_len}
-use Rattle.std.proofs.lemmas.Bool.{cases_lt, cases_Bool, and_parts, and_from, eq-eqb, eqb-true, false≢true}
+use Rattle.std.proofs.Common.{◌≡◌, ◌≢◌, inl, inr, ℕ, ◌<◌, ◌≤◌, Bool, true, false, List, length, ◌==◌, ◌&&◌, Option, Some, None, refl, sym, ap, ap₂, ◌∙◌, arith, if◌then◌else◌}
+use Rattle.std.proofs.lemmas.Bool.{cases_lt, and_parts, and_from, eq-eqb, eqb-true, false≢true}
 use Rattle.std.proofs.lemmas.List.{get_or_past}
 use Rattle.std.proofs.lemmas.List.FromFn.{get_or-map-range_with_len, length-map-range_with_len}
-use Rattle.std.proofs.lemmas.Option.{same_Some, none-some}
+use Rattle.std.proofs.lemmas.Option.{same_Some}
 use Rattle.zero_count.specs.declared.Header.{Header}
-use Rattle.zero_count.specs.HeaderWord.{header_of}
-use Rattle.cell_die.specs.Cells.{page_at}
-use Rattle.spare_gate.specs.Slots.{word_at}
 use Rattle.sector_map.specs.declared.entry.Entry.{Entry}
-use Rattle.sector_map.specs.Entry.{place_of, entry_at}
+use Rattle.sector_map.specs.Entry.{entry_at}
 use Rattle.page_codec.specs.declared.place.Place.{Place}
 use Rattle.page_codec.specs.Geometry.{Geometry, block_of}
 use Rattle.page_codec.specs.Records.{Placed, header_in, live_record}
 use Rattle.page_codec.specs.Sectors.{says_zeros}
 use Rattle.page_codec.specs.TrueBook.{live_map, entry_of}
 use Rattle.collector.specs.Inside.{number_of, names_place}
-use Rattle.collector.proofs.Committed.{LiveSo, live_so}
+use Rattle.collector.proofs.Committed.{live_so}
 use Rattle.collector.proofs.Passing.{place_apart, slot_in}
 
 -- the entry of a sector is that of its live record

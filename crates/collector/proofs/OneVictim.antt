@@ -1,12 +1,11 @@
 -- There is one victim.
-use Rattle.std.proofs.Common.{◌≡◌, ◌≢◌, inl, inr, ℕ, zero, suc, ◌+◌, ◌<◌, ◌≤◌, Bool, true, false, cond, not, IsTrue, List, [], ◌∷◌, length, ◌==◌, if◌then◌else◌, get_or, refl, sym, ap, ◌∙◌, subst, arith}
+use Rattle.std.proofs.Common.{◌≡◌, inl, inr, ℕ, ◌+◌, ◌<◌, Bool, cond, not, List, [], ◌∷◌, length, ◌==◌, if◌then◌else◌, get_or, sym, ap, ◌∙◌, arith}
 use Rattle.std.specs.List.{position_or_len}
-use Rattle.std.proofs.lemmas.Bool.{cases_Bool, eqb-true, cond-true}
+use Rattle.std.proofs.lemmas.Bool.{cases_Bool, eqb-true}
 use Rattle.std.proofs.lemmas.List.Sums.{passes_at_first}
 use Rattle.block_links.specs.Lists.{times}
-use Rattle.block_state.specs.State.{is_closed}
-use Rattle.block_state.specs.Book.{BookValue, IsValid, IsSpare, HasOneSpare, IsClosed, state_at, live_at}
-use Rattle.block_state.specs.Victim.{stamp, IsLeast, IsVictim}
+use Rattle.block_state.specs.Book.{BookValue, IsValid, IsSpare, HasOneSpare, IsClosed, live_at}
+use Rattle.block_state.specs.Victim.{stamp, IsVictim}
 
 -- a number that stands in a list has a place in it
 place_in : (b : ℕ) (xs : List ℕ) → 0 < times b xs → position_or_len (λ c. c == b) xs < length xs

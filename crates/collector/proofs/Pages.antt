@@ -1,7 +1,6 @@
 -- From slot to slot of a page, and from page to page.
-use Rattle.std.proofs.Common.{◌≡◌, ◌≢◌, inl, inr, ℕ, ◌+◌, ◌*◌, ◌/◌, ◌%◌, ◌<◌, ◌≤◌, List, length, drop, Option, Some, None, Result, Ok, Err, refl, sym, ap, ap₂, ◌∙◌, subst, arith, add-zero}
+use Rattle.std.proofs.Common.{◌≡◌, ℕ, ◌+◌, ◌*◌, ◌%◌, ◌<◌, ◌≤◌, List, length, drop, Result, Err, sym, ap, ◌∙◌, subst, arith, add-zero}
 use Rattle.std.proofs.lemmas.Nat.{div-add-mod'}
-use Rattle.zero_count.specs.declared.Header.{Header}
 use Rattle.cell_die.specs.declared.shape.Shape.{Shape}
 use Rattle.cell_die.specs.Cells.{page_at}
 use Rattle.cell_die.specs.DieState.{DieState}
@@ -13,11 +12,9 @@ use Rattle.page_codec.specs.declared.place.Place.{Place}
 use Rattle.page_codec.specs.declared.fault.PutFault.{PutFault}
 use Rattle.page_codec.specs.declared.fault.PutFault.TheVariants.{Read, Change}
 use Rattle.page_codec.specs.Geometry.{Geometry, block_of}
-use Rattle.page_codec.specs.Records.{header_in}
 use Rattle.collector.specs.declared.moves.Move.{Move}
-use Rattle.collector.specs.Collections.{collection_reads}
-use Rattle.collector.specs.Inside.{Begun, Stands, StandsAt, EndsAt, TurnEnds, Reached, ReadStopped, ChangeStopped, number_of, passed_gets}
-use Rattle.collector.specs.Store.{Store, geometry_of}
+use Rattle.collector.specs.Inside.{Begun, Stands, TurnEnds, Reached, ReadStopped, ChangeStopped, number_of}
+use Rattle.collector.specs.Store.{Store}
 use Rattle.collector.proofs.Passing.{gets_few}
 use Rattle.collector.proofs.Reaching.{two_slots}
 use Rattle.collector.proofs.States.{page_in_block}

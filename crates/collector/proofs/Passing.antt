@@ -1,13 +1,13 @@
 -- The live records of a block are passed slot by slot: how a list of those that were passed grows.
-use Rattle.std.proofs.Common.{◌≡◌, ◌≢◌, ◌⊎◌, inl, inr, ℕ, ◌+◌, ◌-◌, ◌*◌, ◌/◌, ◌%◌, ◌<◌, ◌≤◌, Bool, true, false, cond, List, [], ◌∷◌, ◌++◌, length, ◌&&◌, ◌==◌, nat_lt, if◌then◌else◌, Option, Some, None, refl, sym, ap, ap₂, ◌∙◌, arith, subst, length-append, zero-add}
-use Rattle.std.specs.List.{count_by, sum_by, range_with_len}
-use Rattle.std.proofs.lemmas.Bool.{cases_eq, cases_lt, cases_Bool, and_left, and_parts, cond-true, cond-false, lt-ltb, le-ltb, ltb-true, eq-eqb, eqb-true, ne_eqb, false≢true}
+use Rattle.std.proofs.Common.{◌≡◌, ◌≢◌, ◌⊎◌, inl, inr, ℕ, ◌+◌, ◌*◌, ◌%◌, ◌<◌, ◌≤◌, Bool, true, false, cond, List, [], ◌∷◌, ◌++◌, length, ◌&&◌, ◌==◌, if◌then◌else◌, Option, Some, None, refl, sym, ap, ap₂, ◌∙◌, arith, subst, length-append, zero-add}
+use Rattle.std.specs.List.{sum_by, range_with_len}
+use Rattle.std.proofs.lemmas.Bool.{cases_eq, cases_lt, and_left, and_parts, lt-ltb, le-ltb, eq-eqb, eqb-true, ne_eqb, false≢true}
 use Rattle.std.proofs.lemmas.List.{get_or_append_left, get_or_push}
 use Rattle.std.proofs.lemmas.Nat.{div-add-mod'}
 use native.Mathlib.Nat.{mul-le-mul_right, suc-mul}
 use Rattle.page_codec.specs.declared.place.Place.{Place}
 use Rattle.page_codec.specs.Geometry.{Geometry, block_of}
-use Rattle.page_codec.specs.Records.{Placed, may_hold, live_record}
+use Rattle.page_codec.specs.Records.{Placed, live_record}
 use Rattle.page_codec.specs.Sound.{stands_in, live_count}
 use Rattle.page_codec.proofs.Live.{holds_within}
 use Rattle.collector.specs.Moves.{ComesBefore}
@@ -15,7 +15,7 @@ use Rattle.collector.specs.Collections.{AreLiveOf, get_reads, nth, nowhere}
 use Rattle.collector.specs.Inside.{number_of, is_passed, passed_count, passed_gets, Scanned}
 use Rattle.collector.proofs.Counting.{same_count, count_rises, none_pass}
 use Rattle.collector.proofs.Weights.{same_sum, sum_rises, sum_lower, zero_sum}
-use Rattle.collector.proofs.Committed.{LiveSo, live_so, live_apart}
+use Rattle.collector.proofs.Committed.{live_so, live_apart}
 
 -- ---- numbers of slots
 
@@ -143,8 +143,8 @@ module _ (g : Geometry) (cells : List (List ℕ)) (block : ℕ) where
     -- no other sector's live record has its number
     other : (sector : ℕ) → sector ≢ x.header.sector → (y : Placed) → live_record g cells sector ≡ Some y → block_of g y.place.page ≡ block → number_of g y.place ≢ cursor
     other sector apart y e f same = apart (
-      let one_record = number_apart g cells one block sector x.header.sector y x e live f here (same ∙ sym at) in
-      sym (live_so g cells sector y e).of_sector ∙ ap (λ (z : Placed). z.header.sector) one_record)
+        let one_record = number_apart g cells one block sector x.header.sector y x e live f here (same ∙ sym at) in
+        sym (live_so g cells sector y e).of_sector ∙ ap (λ (z : Placed). z.header.sector) one_record)
 
     was_not : is_passed g block cursor (live_record g cells x.header.sector) ≡ false
     was_not = ap (is_passed g block cursor) live ∙ passed_no g block cursor x (omega (arith, at))
@@ -188,10 +188,10 @@ module _ (g : Geometry) (cells : List (List ℕ)) (block : ℕ) where
           ]);
       all = λ sector placed e f h. elim (cases_eq (number_of g placed.place) cursor) [
         | inl same ↦ (
-            length records,
-            omega (arith, length_push records x),
-            nth_last records x (length records) refl ∙ number_apart g cells one block x.header.sector sector x placed live e here f (at ∙ sym same),
-          )
+          length records,
+          omega (arith, length_push records x),
+          nth_last records x (length records) refl ∙ number_apart g cells one block x.header.sector sector x placed live e here f (at ∙ sym same),
+        )
         | inr apart ↦ (let found = s.all sector placed e f (omega (arith, h, apart)) in (found.0, omega (arith, found.1, length_push records x), nth_front records x found.0 found.1 ∙ found.2))
       ];
       count = length_push records x ∙ (ap (λ (n : ℕ). n + 1) s.count ∙ sym count_take);

@@ -1,5 +1,5 @@
 -- A copy changes no live record, whatever the outcome of its put, while the seal of its block is not charged.
-use Rattle.std.proofs.Common.{◌≡◌, ◌⊎◌, ◌*◌, ◌<◌, ℕ, inl, inr, refl, Bool, true, false, List, drop, ◌&&◌, if◌then◌else◌, Some, None, sym, ap, ap₂, ◌∙◌, subst}
+use Rattle.std.proofs.Common.{◌≡◌, ◌⊎◌, ◌*◌, ℕ, inl, inr, refl, Bool, true, false, List, drop, ◌&&◌, if◌then◌else◌, Some, None, sym, ap, ap₂, ◌∙◌, subst}
 use Rattle.std.proofs.lemmas.Bool.{cases_Bool, cond-true, lt-ltb}
 use Rattle.zero_count.specs.declared.Header.{Header}
 use Rattle.zero_count.specs.HeaderWord.{header_of}

@@ -1,51 +1,33 @@
 -- How a collection goes from slot to slot, and what it leaves where it stops.
-use Rattle.std.proofs.Common.{◌≡◌, ◌≢◌, ◌⊎◌, inl, inr, ℕ, ◌+◌, ◌*◌, ◌^◌, ◌<◌, ◌≤◌, Bool, true, false, List, [], ◌∷◌, ◌++◌, length, take, drop, ◌==◌, if◌then◌else◌, slice_index_or, slice_set, Option, Some, None, refl, sym, ap, ap₂, ◌∙◌, subst, arith, get_or-set_same, get_or-set_other}
-use Rattle.std.proofs.lemmas.Bool.{cases_eq, cases_lt, cases_Bool, cond-true, cond-false, eq-eqb, false≢true}
+use Rattle.std.proofs.Common.{◌≡◌, ◌≢◌, ◌⊎◌, inl, inr, ℕ, ◌+◌, ◌<◌, ◌≤◌, true, false, List, length, drop, Option, Some, refl, sym, ap, ◌∙◌, subst, arith}
+use Rattle.std.proofs.lemmas.Bool.{cases_eq, false≢true}
 use Rattle.zero_count.specs.declared.Header.{Header}
-use Rattle.zero_count.specs.HeaderWord.{IsHeader, header_of}
-use Rattle.cell_die.specs.declared.shape.Shape.{Shape}
-use Rattle.cell_die.specs.Cells.{page_at, is_blank}
-use Rattle.cell_die.specs.Counts.{Rose, Stayed}
-use Rattle.cell_die.specs.DieState.{DieState, IsShaped, page_of}
+use Rattle.zero_count.specs.HeaderWord.{header_of}
+use Rattle.cell_die.specs.Counts.{Stayed}
+use Rattle.cell_die.specs.DieState.{DieState}
 use Rattle.cell_die.specs.Changes.{SameCells}
-use Rattle.cell_die.specs.Calls.{Kept, Passed, ChangeFailed, ReadFailed}
+use Rattle.cell_die.specs.Calls.{Kept}
 use Rattle.cell_die.specs.Pads.{NoPadCharged}
-use Rattle.cell_die.proofs.Sequences.{kept_refl, kept_trans, passed_trans, passed_none, change_failed_after, read_failed_after, change_failed_within, read_failed_within}
-use Rattle.striped.specs.Meaning.{Meaning, Decoding}
-use Rattle.spare_gate.specs.Slots.{is_gate_charged, word_at}
+use Rattle.cell_die.proofs.Sequences.{kept_trans}
+use Rattle.striped.specs.Meaning.{Decoding}
+use Rattle.spare_gate.specs.Slots.{word_at}
 use Rattle.sector_map.specs.declared.entry.Entry.{Entry}
 use Rattle.block_state.specs.declared.state.State.TheVariants.{Spare}
 use Rattle.block_state.specs.State.{is_spare, is_closed}
 use Rattle.block_state.specs.Book.{BookValue, IsSpare, state_at, live_at, with_state}
 use Rattle.page_codec.specs.declared.place.Place.{Place}
-use Rattle.page_codec.specs.Geometry.{Geometry, block_of, page_count, shape_of, spare_at, main_at}
-use Rattle.page_codec.specs.Promises.{IsSlotOf, IsFresh, Keeps, KeepsRecords}
-use Rattle.page_codec.specs.Puts.{Puts, first_slot, is_gated}
+use Rattle.page_codec.specs.Geometry.{Geometry, block_of, shape_of}
 use Rattle.page_codec.specs.Records.{Placed, header_in, live_record}
-use Rattle.page_codec.specs.Sectors.{says_zeros, zero_sector, said_by, stored}
 use Rattle.page_codec.specs.Sound.{IsSound, live_count}
-use Rattle.page_codec.specs.TrueBook.{IsTrue as IsTrueTo, IsTrueState, IsTrueSpare, IsNextSeq, is_block_blank}
-use Rattle.page_codec.specs.Units.{decoded_at}
-use Rattle.page_codec.proofs.PutLaws.{PutsCells, header_after}
-use Rattle.page_codec.proofs.PutCells.{put_cells}
-use Rattle.page_codec.proofs.SoundErase.{live_count_same}
-use Rattle.collector.specs.declared.moves.Move.{Move}
-use Rattle.collector.specs.Collections.{CollectReadFailed, CollectChangeFailed, Marks, as_it_was, copied_to, collection_calls, collection_reads, erase_calls, copy_of, copied_kind, get_reads, nth}
-use Rattle.collector.specs.Inside.{Scanned, Taking, Inside, Reached, Begun, ReadStopped, ChangeStopped, number_of, passed_count, passed_gets}
-use Rattle.collector.specs.Settles.{move_of, no_move}
-use Rattle.collector.specs.Steps.{PutsDrawn, DecodesTo, copied_header, copy_reads}
-use Rattle.collector.specs.Store.{Store, store, IsTrueStore, SameRows, DrewSeqs, Holds}
-use Rattle.collector.proofs.BlankPages.{blank_header, blank_seal}
+use Rattle.page_codec.specs.TrueBook.{IsTrue as IsTrueTo, IsTrueState, IsTrueSpare, IsNextSeq}
+use Rattle.collector.specs.Collections.{Marks, as_it_was, copied_to}
+use Rattle.collector.specs.Inside.{Taking, Inside, Begun}
+use Rattle.collector.specs.Store.{Store, IsTrueStore, SameRows}
 use Rattle.collector.proofs.Books.{state_here}
 use Rattle.collector.proofs.BooksAgain.{state_twice, state_same}
-use Rattle.collector.proofs.Clearing.{holds_same}
-use Rattle.collector.proofs.Committed.{live_so}
-use Rattle.collector.proofs.Copying.{PutsCopy, copy_leaves_live, copy_leaves_others, one_copy_more}
-use Rattle.collector.proofs.Elsewhere.{said_stays, rows_stay}
-use Rattle.collector.proofs.Passing.{length_push, nth_front, nth_last, count_take, count_few, gets_take, gets_few, gets_skip, scanned_take, scanned_skip, scanned_start, gets_start}
-use Rattle.collector.proofs.Shapes.{some_pages}
+use Rattle.collector.proofs.Elsewhere.{rows_stay}
 use Rattle.collector.proofs.Sparing.{none_stands, spare_changes}
-use Rattle.collector.proofs.States.{blank_pages, page_in_block, block_blank}
+use Rattle.collector.proofs.States.{block_blank}
 
 module _ (g : Geometry) (d : Decoding) (victim spare : ℕ) (start : Store) (b : Begun g victim spare start) where
   -- ---- what holds at the start

@@ -1,13 +1,13 @@
 -- How a collection ends at its seal.
-use Rattle.std.proofs.Common.{◌≡◌, ◌≢◌, ◌⊎◌, inl, inr, ℕ, ◌+◌, ◌-◌, ◌*◌, ◌/◌, ◌%◌, ◌^◌, ◌<◌, ◌≤◌, Bool, true, false, List, [], length, take, drop, ◌==◌, Option, Some, None, refl, sym, ap, ap₂, ◌∙◌, subst, arith, length-set, get_or-take}
-use Rattle.std.proofs.lemmas.Bool.{cases_eq, cases_lt, and_parts, eq-eqb, false≢true, false_from_ne_true}
+use Rattle.std.proofs.Common.{◌≡◌, ◌⊎◌, inl, inr, ℕ, ◌+◌, ◌-◌, ◌*◌, ◌/◌, ◌%◌, ◌<◌, Bool, true, false, List, [], length, take, ◌==◌, Option, sym, ap, ◌∙◌, subst, arith, length-set, get_or-take}
+use Rattle.std.proofs.lemmas.Bool.{cases_eq, and_parts, eq-eqb, false≢true}
 use Rattle.std.proofs.lemmas.List.{ext_get_or}
 use Rattle.std.proofs.lemmas.Nat.{div-add-mod'}
 use Rattle.cell_die.specs.declared.shape.Shape.{Shape}
-use Rattle.cell_die.specs.Cells.{page_at, is_charged, with_charged, charge}
+use Rattle.cell_die.specs.Cells.{is_charged, with_charged, charge}
 use Rattle.cell_die.specs.Counts.{Stayed}
-use Rattle.cell_die.specs.DieState.{DieState, IsShaped, page_of, page_bytes}
-use Rattle.cell_die.specs.Changes.{SameCells, OnlyPage}
+use Rattle.cell_die.specs.DieState.{DieState, IsShaped, page_of}
+use Rattle.cell_die.specs.Changes.{OnlyPage}
 use Rattle.cell_die.specs.Calls.{Kept, Passed, PassedWithin, ChangeFailed}
 use Rattle.cell_die.specs.Pads.{NoPadCharged, is_pad, is_pad_of_slot}
 use Rattle.cell_die.proofs.Sequences.{kept_trans, passed_trans, passed_within, change_failed_after, change_failed_within}
@@ -18,17 +18,16 @@ use Rattle.sector_map.specs.declared.entry.Entry.{Entry}
 use Rattle.block_state.specs.Book.{BookValue, IsValid, IsSpare, IsActive, NoneActive, state_at, live_at, with_state}
 use Rattle.block_state.specs.State.{is_active}
 use Rattle.block_state.specs.declared.state.State.TheVariants.{Spare}
-use Rattle.page_codec.specs.Geometry.{Geometry, HasShape, block_of, page_count, shape_of}
-use Rattle.page_codec.specs.Records.{Placed, header_in}
+use Rattle.page_codec.specs.Geometry.{Geometry, block_of, page_count, shape_of}
+use Rattle.page_codec.specs.Records.{header_in}
 use Rattle.page_codec.specs.Sectors.{stored}
 use Rattle.page_codec.specs.Sound.{IsSound}
 use Rattle.page_codec.specs.TrueBook.{IsTrue as IsTrueTo}
 use Rattle.collector.specs.declared.moves.Move.{Move}
 use Rattle.collector.specs.Collections.{Collected, CollectChangeFailed, collection_calls, collection_reads, nth}
-use Rattle.collector.specs.Effects.{sealed}
 use Rattle.collector.specs.Inside.{Begun, Reached}
 use Rattle.collector.specs.Settles.{move_at, no_move, NamesMoves, settled}
-use Rattle.collector.specs.Store.{Store, store, SameRows, Holds}
+use Rattle.collector.specs.Store.{Store, store, Holds}
 use Rattle.collector.proofs.Books.{state_here, state_there}
 use Rattle.collector.proofs.Committed.{live_so}
 use Rattle.collector.proofs.Named.{live_map_long}
@@ -38,7 +37,7 @@ use Rattle.collector.proofs.Sealing.{Seals, copy_is_live, others_live, header_st
 use Rattle.collector.proofs.Settled.{Settles, book_is, settled_true}
 use Rattle.collector.proofs.Shapes.{has_shape, page_there}
 use Rattle.collector.proofs.States.{page_in_block}
-use Rattle.collector.proofs.Stops.{calls_are, few_copies, one_slot}
+use Rattle.collector.proofs.Stops.{calls_are, one_slot}
 
 module _ (g : Geometry) (meaning : Meaning) (victim spare : ℕ) (start now : Store) (copies : ℕ) (moves : List Move) (b : Begun g victim spare start)
     (r : Reached g meaning.decoding victim spare start now (g.pages * g.generations) g.pages copies moves) (shaped : IsShaped now.die) where
@@ -131,7 +130,7 @@ module _ (g : Geometry) (meaning : Meaning) (victim spare : ℕ) (start now : St
         let k : c - 8 * g.main_bytes ≡ 248 = omega (arith, cell) in
         let first : (page % g.pages == 0) ≡ true = ap (λ (q : ℕ). q % g.pages == 0) at ∙ first_of_block in
         let seal : is_pad_of_slot true (248 / 128) (248 % 128) ≡ true = subst (λ (t : Bool). is_pad_of_slot t (248 / 128) (248 % 128) ≡ true) first
-            (subst (λ (n : ℕ). is_pad_of_slot (page % g.pages == 0) (n / 128) (n % 128) ≡ true) k slot) in
+        (subst (λ (n : ℕ). is_pad_of_slot (page % g.pages == 0) (n / 128) (n % 128) ≡ true) k slot) in
         false≢true seal
 
     pads_kept : NoPadCharged (shape_of g) now.die.cells → NoPadCharged (shape_of g) new.cells

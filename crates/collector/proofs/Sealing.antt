@@ -1,10 +1,10 @@
 -- The seal: from it on all copies are the live records of their sectors, all other live records stay, and so does every
 -- stored sector.
-use Rattle.std.proofs.Common.{◌≡◌, ◌≢◌, ◌⊎◌, inl, inr, ℕ, ◌+◌, ◌*◌, ◌^◌, ◌<◌, ◌≤◌, Bool, true, false, List, length, map, take, drop, ◌==◌, ◌||◌, nat_lt, if◌then◌else◌, Option, Some, None, refl, sym, ap, ap₂, ◌∙◌, subst, arith}
-use Rattle.std.specs.List.{count_by, filter_map, range_with_len}
-use Rattle.std.proofs.lemmas.Bool.{cases_eq, cases_lt, cases_Bool, cond-false, eq-eqb, ne_eqb, eqb-true, lt-ltb, false≢true}
+use Rattle.std.proofs.Common.{◌≡◌, ◌≢◌, inl, inr, ℕ, ◌+◌, ◌*◌, ◌<◌, ◌≤◌, Bool, true, false, List, length, map, take, drop, ◌==◌, ◌||◌, nat_lt, if◌then◌else◌, Option, Some, None, refl, sym, ap, ◌∙◌, subst, arith}
+use Rattle.std.specs.List.{filter_map, range_with_len}
+use Rattle.std.proofs.lemmas.Bool.{cases_eq, cases_lt, cases_Bool, cond-false, eq-eqb, ne_eqb, eqb-true, false≢true}
 use Rattle.std.proofs.lemmas.Bool.Decides.{nat_tests}
-use Rattle.std.proofs.lemmas.Option.{same_Some, none-some}
+use Rattle.std.proofs.lemmas.Option.{same_Some}
 use Rattle.zero_count.specs.declared.Header.{Header}
 use Rattle.zero_count.specs.HeaderWord.{header_of}
 use Rattle.cell_die.specs.Cells.{page_at, is_blank, with_charged, IsAbove}
@@ -15,11 +15,11 @@ use Rattle.spare_gate.proofs.Blank.{seal_keeps_blank}
 use Rattle.spare_gate.proofs.Gates.{seal_charges, seal_keeps_gates, seal_keeps_words}
 use Rattle.page_codec.specs.declared.place.Place.{Place}
 use Rattle.page_codec.specs.Geometry.{Geometry, block_of, spare_at, main_at}
-use Rattle.page_codec.specs.Records.{Placed, may_hold, below_sectors, header_in, record_in, is_copy, is_sealed, is_newer, of_sector, places, records_of, newest, committed_in, live_record}
+use Rattle.page_codec.specs.Records.{Placed, may_hold, below_sectors, header_in, record_in, is_copy, is_sealed, of_sector, places, records_of, newest, committed_in, live_record}
 use Rattle.page_codec.specs.Sectors.{said_by, says_zeros, zero_sector, stored}
 use Rattle.page_codec.specs.Sound.{IsSound, live_count, stands_in}
 use Rattle.page_codec.proofs.Live.{of_records, in_records}
-use Rattle.page_codec.proofs.Newest.{newest_is, Member}
+use Rattle.page_codec.proofs.Newest.{newest_is}
 use Rattle.collector.specs.Moves.{ComesBefore}
 use Rattle.collector.specs.Collections.{AreLiveOf, copy_of, nth}
 use Rattle.collector.specs.Inside.{Taking}
@@ -130,7 +130,7 @@ module _ (g : Geometry) (d : Decoding) (victim spare seq : ℕ) (start cells new
   -- what is committed elsewhere has an older seq
   is_older : (place : Place) (h : Header) → block_of g place.page ≢ spare → committed_in g new place ≡ Some h → h.seq < seq
   is_older place h apart e = s.fresh place h (
-    ap (λ (bytes : List ℕ). header_of (word_at (drop g.main_bytes bytes) place.slot)) (sym (only_since place.page apart)) ∙ (committed_so g new place h e).header)
+      ap (λ (bytes : List ℕ). header_of (word_at (drop g.main_bytes bytes) place.slot)) (sym (only_since place.page apart)) ∙ (committed_so g new place h e).header)
 
   -- ---- what is live
 
@@ -181,8 +181,8 @@ module _ (g : Geometry) (d : Decoding) (victim spare seq : ℕ) (start cells new
 
   pub others_live : (sector : ℕ) → stands_in g victim (live_record g start sector) ≡ false → live_record g new sector ≡ live_record g start sector
   others_live sector not = unmoved sector (λ i h same. false≢true (
-    sym not ∙ (ap (λ (t : ℕ). stands_in g victim (live_record g start t)) (sym same) ∙ (ap (stands_in g victim) (s.are_live.live i h) ∙ s.are_live.inside i h))))
-    ∙ s.taking.live sector
+      sym not ∙ (ap (λ (t : ℕ). stands_in g victim (live_record g start t)) (sym same) ∙ (ap (stands_in g victim) (s.are_live.live i h) ∙ s.are_live.inside i h))))
+      ∙ s.taking.live sector
 
   -- a live record of the victim is one of those that were copied
   pub moved : (sector : ℕ) (x : Placed) → live_record g start sector ≡ Some x → stands_in g victim (Some x) ≡ true

@@ -1,21 +1,19 @@
 -- After the seal the tables are true: the map names the copies, the Spare is Active with them, and the victim is the Spare.
-use Rattle.std.proofs.Common.{◌≡◌, ◌≢◌, ◌⊎◌, inl, inr, ℕ, ◌+◌, ◌*◌, ◌<◌, ◌≤◌, Bool, true, false, IsTrue, List, length, if◌then◌else◌, Option, Some, None, refl, sym, ap, ap₂, ◌∙◌, subst, arith, length-set}
+use Rattle.std.proofs.Common.{◌≡◌, ◌≢◌, inl, inr, ℕ, ◌+◌, ◌*◌, ◌<◌, Bool, true, false, List, length, if◌then◌else◌, Option, Some, None, refl, sym, ap, ◌∙◌, subst, arith, length-set}
 use Rattle.std.proofs.lemmas.Bool.{cases_eq, cases_lt, cases_Bool, false≢true}
 use Rattle.std.proofs.lemmas.List.{ext_get_or}
-use Rattle.cell_die.specs.Cells.{page_at, is_blank}
 use Rattle.striped.specs.Meaning.{Decoding}
 use Rattle.sector_map.specs.declared.entry.Entry.{Entry}
 use Rattle.sector_map.specs.declared.entry.Entry.TheVariants.{Held, Zeros}
 use Rattle.sector_map.specs.Entry.{entry_at}
-use Rattle.spare_gate.specs.Slots.{is_slot_blank}
 use Rattle.block_state.specs.declared.state.State.TheVariants.{Active, Spare}
 use Rattle.block_state.specs.State.{is_spare, is_closed}
 use Rattle.block_state.specs.Book.{BookValue, IsValid, IsSpare, HasOneSpare, state_at, live_at, with_state, with_live}
-use Rattle.page_codec.specs.Geometry.{Geometry, block_of, spare_at, units, unit_page}
-use Rattle.page_codec.specs.Records.{Placed, header_in, live_record}
+use Rattle.page_codec.specs.Geometry.{Geometry}
+use Rattle.page_codec.specs.Records.{Placed, live_record}
 use Rattle.page_codec.specs.Sectors.{says_zeros}
 use Rattle.page_codec.specs.Sound.{stands_in, live_count}
-use Rattle.page_codec.specs.TrueBook.{IsTrue as IsTrueTo, IsTrueState, IsTrueActive, IsTrueSpare, IsNextSeq, live_map, entry_of}
+use Rattle.page_codec.specs.TrueBook.{IsTrue as IsTrueTo, IsTrueState, IsTrueActive, IsTrueSpare, live_map, entry_of}
 use Rattle.collector.specs.declared.moves.Move.{Move}
 use Rattle.collector.specs.Collections.{copy_of, nth}
 use Rattle.collector.specs.Effects.{sealed}
@@ -24,7 +22,7 @@ use Rattle.collector.specs.Settles.{move_of, move_at, entry_on, NamesMoves, sett
 use Rattle.collector.specs.Store.{Store}
 use Rattle.collector.proofs.BlankPages.{blank_slot}
 use Rattle.collector.proofs.Books.{state_here, state_there, live_here, live_there}
-use Rattle.collector.proofs.BooksAgain.{state_twice, state_same}
+use Rattle.collector.proofs.BooksAgain.{state_twice}
 use Rattle.collector.proofs.Committed.{live_so}
 use Rattle.collector.proofs.Named.{live_entry, live_map_long}
 use Rattle.collector.proofs.Reaching.{spare_is, fresh_now}
@@ -138,8 +136,11 @@ module _ (g : Geometry) (d : Decoding) (victim spare : ℕ) (start now : Store) 
             let m = moved g d victim spare start.seq start.die.cells now.die.cells new records s.seals sector x e is in
             let here : (move_at moves m.0).sector ≡ sector = sector_of m.0 m.1 ∙ (ap (λ (z : Placed). z.header.sector) m.2 ∙ (live_so g start.die.cells sector x e).of_sector) in
             ap (entry_at table) (sym here)
-            ∙ (s.names.named m.0 m.1 (λ j after within same. omega (arith, after,
-            one_each g d victim spare start.seq start.die.cells now.die.cells new records s.seals j m.0 within m.1 (sym (sector_of j within) ∙ (same ∙ sector_of m.0 m.1))))
+            ∙ (s.names.named m.0 m.1 (λ j after within same. omega (
+              arith,
+              after,
+              one_each g d victim spare start.seq start.die.cells now.die.cells new records s.seals j m.0 within m.1 (sym (sector_of j within) ∙ (same ∙ sector_of m.0 m.1)),
+            ))
             ∙ (ap (λ (mv : Move). Some (entry_on mv (spare * g.pages + m.0))) (s.moved_to m.0 m.1)
             ∙ (entry_same (nth records m.0) m.0 ∙ ap entry_of (sym m.3)))))
       ]

@@ -1,11 +1,10 @@
 -- The shape of a die as a geometry's.
-use Rattle.std.proofs.Common.{◌≡◌, inl, inr, ℕ, ◌*◌, ◌/◌, ◌%◌, ◌+◌, ◌^◌, ◌<◌, ◌≤◌, List, length, slice_index, sym, ap, ◌∙◌, arith, subst, All}
+use Rattle.std.proofs.Common.{◌≡◌, inl, inr, ℕ, ◌*◌, ◌/◌, ◌+◌, ◌^◌, ◌<◌, ◌≤◌, List, length, slice_index, sym, ap, ◌∙◌, arith, subst, All}
 use Rattle.std.proofs.lemmas.Bool.{cases_lt}
 use Rattle.std.proofs.lemmas.List.{get_or_past}
 use Rattle.std.proofs.lemmas.Nat.{div-add-mod'}
 use native.Mathlib.Nat.{mul-le-mul_right, suc-mul}
 use Rattle.cell_die.specs.declared.shape.Shape.{Shape}
-use Rattle.cell_die.specs.Cells.{page_at}
 use Rattle.cell_die.specs.DieState.{DieState, IsShaped, page_of, page_bytes, block_of as die_block}
 use Rattle.page_codec.specs.Geometry.{Geometry, HasShape, shape_of, block_of, page_count}
 

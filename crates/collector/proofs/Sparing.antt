@@ -1,23 +1,22 @@
 -- Where only the Spare changes, and no live record, the tables stay true.
-use Rattle.std.proofs.Common.{◌≡◌, ◌≢◌, ◌⊎◌, inl, inr, ℕ, ◌+◌, ◌*◌, ◌<◌, ◌≤◌, Bool, true, false, IsTrue, List, length, map, Option, Some, None, refl, sym, ap, ◌∙◌, subst, arith, length-set, get_or-set_same, get_or-set_other}
-use Rattle.std.specs.List.{count_by, range_with_len}
+use Rattle.std.proofs.Common.{◌≡◌, ◌≢◌, inl, inr, ℕ, ◌<◌, Bool, true, List, length, map, Option, Some, sym, ap, ◌∙◌, subst, length-set}
+use Rattle.std.specs.List.{range_with_len}
 use Rattle.std.proofs.lemmas.Bool.{cases_eq, cases_lt, false≢true, eq-eqb}
 use Rattle.std.proofs.lemmas.List.{get_or_past}
 use Rattle.sector_map.specs.declared.entry.Entry.{Entry}
-use Rattle.block_state.specs.declared.state.State.{State}
-use Rattle.block_state.specs.declared.state.State.TheVariants.{Clean, Active, Used, Recycled, Reused, Spare}
-use Rattle.block_state.specs.State.{is_spare, is_closed}
-use Rattle.block_state.specs.Book.{BookValue, IsSpare, HasOneSpare, state_at, live_at, with_state}
+use Rattle.block_state.specs.declared.state.State.TheVariants.{Clean, Spare}
+use Rattle.block_state.specs.State.{is_spare}
+use Rattle.block_state.specs.Book.{BookValue, IsSpare, HasOneSpare, state_at, with_state}
 use Rattle.page_codec.specs.Geometry.{Geometry, block_of}
 use Rattle.page_codec.specs.Records.{Placed, live_record}
 use Rattle.page_codec.specs.Sound.{live_count, stands_in}
-use Rattle.page_codec.specs.TrueBook.{IsTrue as IsTrueTo, IsTrueState, IsTrueSpare, IsNextSeq, HasSizes, is_block_blank, live_map, entry_of}
+use Rattle.page_codec.specs.TrueBook.{IsTrue as IsTrueTo, IsTrueState, IsTrueSpare, IsNextSeq, is_block_blank, live_map, entry_of}
 use Rattle.page_codec.proofs.SoundErase.{live_count_same}
 use Rattle.collector.proofs.Books.{state_here, state_there, valid_state}
 use Rattle.collector.proofs.Counting.{none_passes}
 use Rattle.collector.proofs.Committed.{live_so}
 use Rattle.collector.proofs.Elsewhere.{OnlyIn}
-use Rattle.collector.proofs.States.{BlockStays, state_stays}
+use Rattle.collector.proofs.States.{state_stays}
 
 -- the same live records, the same map
 pub live_map_same : (g : Geometry) (old new : List (List ℕ)) → ((sector : ℕ) → live_record g new sector ≡ live_record g old sector) → live_map g new ≡ live_map g old
@@ -28,8 +27,8 @@ live_map_same g old new same = λ i. map (λ sector. entry_of (same sector i)) (
 pub none_stands : (g : Geometry) (cells : List (List ℕ)) (block : ℕ) → live_count g cells block ≡ 0 → (sector : ℕ) (x : Placed) → live_record g cells sector ≡ Some x → block_of g x.place.page ≢ block
 unfolding live_count
 none_stands g cells block none sector x e here = false≢true (
-  sym (none_passes (λ s. stands_in g block (live_record g cells s)) g.sectors none sector (live_so g cells sector x e).within)
-  ∙ (ap (stands_in g block) e ∙ eq-eqb _ _ here))
+    sym (none_passes (λ s. stands_in g block (live_record g cells s)) g.sectors none sector (live_so g cells sector x e).within)
+    ∙ (ap (stands_in g block) e ∙ eq-eqb _ _ here))
 
 -- a Spare block is one of the blocks
 pub spare_within : (v : BookValue) (b : ℕ) → IsSpare v b → b < length v.states

@@ -1,27 +1,25 @@
 -- True tables to begin with: those of a die with no charged cell, and a Clean block that becomes Active.
-use Rattle.std.proofs.Common.{◌≡◌, ◌≢◌, ◌⊎◌, inl, inr, ℕ, zero, suc, ◌+◌, ◌*◌, ◌<◌, ◌≤◌, Bool, true, false, List, length, replicate, ◌&&◌, Option, Some, None, refl, sym, ap, ap₂, ◌∙◌, arith, subst}
+use Rattle.std.proofs.Common.{◌≡◌, inl, inr, ℕ, zero, suc, ◌+◌, ◌*◌, ◌<◌, Bool, true, List, length, replicate, Option, Some, None, refl, sym, ap, ◌∙◌, arith, subst}
 use Rattle.std.specs.List.{range_with_len, list_all}
-use Rattle.std.proofs.lemmas.Bool.{cases_eq, and_parts, and_from, false≢true}
+use Rattle.std.proofs.lemmas.Bool.{cases_eq, and_parts, and_from}
 use Rattle.std.proofs.lemmas.List.{same_lists, get_or_default, get_or-replicate, length-replicate, length-set}
 use Rattle.std.proofs.lemmas.Option.{none-some}
 use Rattle.zero_count.specs.declared.Header.{Header}
 use Rattle.cell_die.specs.Cells.{page_at, is_blank}
 use Rattle.sector_map.specs.declared.entry.Entry.{Entry}
-use Rattle.sector_map.specs.Entry.{entry_at}
 use Rattle.block_state.specs.declared.state.State.{State}
 use Rattle.block_state.specs.declared.state.State.TheVariants.{Clean, Active, Used, Recycled, Reused, Spare}
-use Rattle.block_state.specs.State.{is_active, is_spare}
-use Rattle.block_state.specs.Book.{BookValue, IsValid, IsActive, NoneActive, HasOneSpare, state_at, live_at, with_state}
+use Rattle.block_state.specs.State.{is_spare}
+use Rattle.block_state.specs.Book.{BookValue, IsValid, NoneActive, HasOneSpare, state_at, live_at, with_state}
 use Rattle.page_codec.specs.declared.place.Place.{Place}
-use Rattle.page_codec.specs.Geometry.{Geometry, block_of, unit_page, spare_at}
-use Rattle.page_codec.specs.Records.{Placed, header_in, committed_in, live_record}
+use Rattle.page_codec.specs.Geometry.{Geometry, unit_page, spare_at}
+use Rattle.page_codec.specs.Records.{Placed, header_in, live_record}
 use Rattle.page_codec.specs.Sound.{live_count, stands_in}
-use Rattle.page_codec.specs.TrueBook.{IsTrue, IsTrueState, IsTrueActive, HasSizes, BlankAbove, is_block_blank, entry_of, live_map}
+use Rattle.page_codec.specs.TrueBook.{IsTrue, IsTrueState, IsTrueActive, HasSizes, is_block_blank, entry_of, live_map}
 use Rattle.page_codec.proofs.Live.{live_counts}
 use Rattle.collector.proofs.Blanks.{blank_page_slot, blank_slot_header, committed_header}
 use Rattle.collector.proofs.Books.{state_here, state_there, valid_state, spare_stays}
 use Rattle.collector.proofs.Counting.{none_pass}
-use Rattle.collector.proofs.NextPage.{some_span}
 use Rattle.collector.proofs.Tables.{entry_live, live_map_long, unit_inside}
 
 -- ---- a Clean block becomes Active

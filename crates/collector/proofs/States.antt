@@ -1,5 +1,5 @@
 -- What a block's state says of the cells stays where its pages and its live records stay.
-use Rattle.std.proofs.Common.{◌≡◌, inl, inr, ℕ, zero, suc, ◌+◌, ◌*◌, ◌/◌, ◌<◌, ◌≤◌, Bool, true, false, List, [], ◌&&◌, drop, refl, sym, ap, ap₂, ◌∙◌, arith, subst, Some}
+use Rattle.std.proofs.Common.{◌≡◌, inl, inr, ℕ, zero, suc, ◌+◌, ◌*◌, ◌/◌, ◌<◌, ◌≤◌, Bool, true, List, ◌&&◌, drop, refl, ap, ap₂, ◌∙◌, arith, subst, Some}
 use Rattle.std.specs.List.{list_all, range_with_len}
 use Rattle.std.proofs.lemmas.Bool.{cases_lt, and_parts, and_from}
 use Rattle.std.proofs.Math.Nat.{div-zero}

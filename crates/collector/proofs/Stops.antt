@@ -1,27 +1,24 @@
 -- The turns of a collection: it begins, scans a page, passes a slot with or without a live record, or stops at a call that failed.
-use Rattle.std.proofs.Common.{◌≡◌, ◌≢◌, ◌⊎◌, inl, inr, ℕ, ◌+◌, ◌*◌, ◌/◌, ◌%◌, ◌^◌, ◌<◌, ◌≤◌, Bool, true, false, List, [], ◌∷◌, ◌++◌, length, drop, ◌==◌, if◌then◌else◌, slice_index_or, slice_set, Option, Some, None, refl, sym, ap, ap₂, ◌∙◌, subst, arith, get_or-set_same, get_or-set_other, add-zero, zero-add}
-use Rattle.std.proofs.lemmas.Bool.{cases_eq, cases_lt}
+use Rattle.std.proofs.Common.{◌≡◌, ◌≢◌, inl, inr, ℕ, ◌+◌, ◌*◌, ◌%◌, ◌<◌, ◌≤◌, true, List, [], ◌∷◌, ◌++◌, length, ◌==◌, if◌then◌else◌, slice_index_or, slice_set, Some, refl, sym, ap, ◌∙◌, subst, arith, get_or-set_same, get_or-set_other, add-zero, zero-add}
+use Rattle.std.proofs.lemmas.Bool.{cases_lt}
 use Rattle.std.proofs.lemmas.Nat.{mod_below}
 use Rattle.cell_die.specs.Cells.{page_at, is_blank}
-use Rattle.cell_die.specs.DieState.{DieState, IsShaped}
+use Rattle.cell_die.specs.DieState.{DieState}
 use Rattle.cell_die.specs.Changes.{SameCells}
 use Rattle.cell_die.specs.Calls.{Kept, Passed, ChangeFailed, ReadFailed}
 use Rattle.cell_die.proofs.Sequences.{passed_trans, passed_none, change_failed_after, read_failed_after, change_failed_within, read_failed_within}
-use Rattle.striped.specs.Meaning.{Meaning, Decoding}
-use Rattle.block_state.specs.declared.state.State.TheVariants.{Spare}
-use Rattle.block_state.specs.Book.{BookValue, state_at, live_at, with_state}
-use Rattle.page_codec.specs.declared.place.Place.{Place}
+use Rattle.striped.specs.Meaning.{Meaning}
+use Rattle.block_state.specs.Book.{BookValue, live_at}
 use Rattle.page_codec.specs.Geometry.{Geometry, block_of}
 use Rattle.page_codec.specs.Puts.{first_slot, is_gated}
 use Rattle.page_codec.specs.Records.{Placed, live_record}
 use Rattle.page_codec.specs.Sectors.{says_zeros}
 use Rattle.page_codec.specs.TrueBook.{IsTrueState, IsTrueSpare, is_block_blank}
-use Rattle.page_codec.specs.Units.{reads_of}
 use Rattle.collector.specs.declared.moves.Move.{Move}
-use Rattle.collector.specs.Collections.{CollectReadFailed, CollectChangeFailed, Marks, copied_to, collection_calls, collection_reads, erase_calls, get_reads, nth}
-use Rattle.collector.specs.Inside.{Scanned, Taking, Inside, Reached, Begun, ReadStopped, ChangeStopped, number_of, passed_gets}
+use Rattle.collector.specs.Collections.{Marks, copied_to, collection_calls, collection_reads, erase_calls, get_reads}
+use Rattle.collector.specs.Inside.{Taking, Reached, Begun, ReadStopped, ChangeStopped, number_of, passed_gets}
 use Rattle.collector.specs.Settles.{move_of, no_move}
-use Rattle.collector.specs.Steps.{PutsDrawn, DecodesTo, copied_header, copy_reads}
+use Rattle.collector.specs.Steps.{copy_reads}
 use Rattle.collector.specs.Store.{Store, store}
 use Rattle.collector.proofs.BlankPages.{blank_header, blank_seal}
 use Rattle.collector.proofs.Clearing.{holds_same}

@@ -4,12 +4,11 @@ use Rattle.std.specs.List.{range_with_len}
 use Rattle.zero_count.specs.declared.Header.{Header}
 use Rattle.cell_die.specs.declared.shape.Shape.{Shape}
 use Rattle.cell_die.specs.Cells.{page_at, is_blank}
-use Rattle.cell_die.specs.DieState.{DieState}
 use Rattle.cell_die.specs.Calls.{Passed}
 use Rattle.striped.specs.Meaning.{Meaning, Decoding}
 use Rattle.spare_gate.specs.Slots.{is_gate_charged, is_slot_blank}
 use Rattle.block_state.specs.declared.state.State.TheVariants.{Spare}
-use Rattle.block_state.specs.Book.{BookValue, IsClosed, NoneActive, state_at, live_at, with_state}
+use Rattle.block_state.specs.Book.{IsClosed, NoneActive, state_at, live_at, with_state}
 use Rattle.sector_map.specs.declared.entry.Entry.{Entry}
 use Rattle.sector_map.specs.Entry.{place_of}
 use Rattle.page_codec.specs.declared.place.Place.{Place}
@@ -17,7 +16,7 @@ use Rattle.page_codec.specs.declared.fault.PutFault.{PutFault}
 use Rattle.page_codec.specs.declared.fault.PutFault.TheVariants.{Read, Change}
 use Rattle.page_codec.specs.Geometry.{Geometry, block_of, shape_of, spare_at}
 use Rattle.page_codec.specs.Records.{Placed, header_in, record_in, is_sealed, live_record}
-use Rattle.page_codec.specs.Sectors.{said_by, says_zeros}
+use Rattle.page_codec.specs.Sectors.{said_by}
 use Rattle.collector.specs.Store.{Store, IsTrueStore, Holds, geometry_of}
 use Rattle.collector.specs.Collections.{Collected, CollectReadFailed, CollectChangeFailed, copy_of, get_reads, nth}
 use Rattle.collector.specs.declared.moves.Move.{Move}

@@ -1,5 +1,5 @@
 -- What the single steps of a collection leave.
-use Rattle.std.specs.Prelude.{◌≡◌, ℕ, ◌+◌, ◌<◌, true, false, List, take, if◌then◌else◌, Result, Ok, Err}
+use Rattle.std.specs.Prelude.{◌≡◌, ℕ, ◌+◌, true, false, List, take, if◌then◌else◌, Result, Ok, Err}
 use Rattle.zero_count.specs.declared.Header.{Header}
 use Rattle.cell_die.specs.DieState.{DieState}
 use Rattle.cell_die.specs.Changes.{SameCells, IsErased, OnlyBlock}
@@ -11,7 +11,7 @@ use Rattle.page_codec.specs.declared.place.Place.{Place}
 use Rattle.page_codec.specs.declared.fault.PutFault.{PutFault}
 use Rattle.page_codec.specs.declared.fault.PutFault.TheVariants.{Read, Change}
 use Rattle.page_codec.specs.Promises.{KeepsRecords}
-use Rattle.page_codec.specs.Puts.{Puts, MainBlank, first_slot, is_gated}
+use Rattle.page_codec.specs.Puts.{Puts, first_slot, is_gated}
 use Rattle.page_codec.specs.Sectors.{says_zeros}
 use Rattle.page_codec.specs.Units.{reads_of, decoded_at}
 use Rattle.collector.specs.Collections.{copied_kind}

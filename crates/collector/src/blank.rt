@@ -10,11 +10,7 @@ use block_state::{Book, State};
 use cell_die::{Die, DieFault};
 
 /// Erases the Spare where it is not known to be blank.
-pub(crate) fn blank_spare<D: Die>(
-    die: &mut D,
-    book: &mut Book,
-    spare: u32,
-) -> Result<(), DieFault>
+pub(crate) fn blank_spare<D: Die>(die: &mut D, book: &mut Book, spare: u32) -> Result<(), DieFault>
     requires is_spare { IsSpare book.old spare }
     requires block { spare < (D.state die.old).shape.blocks }
     ensures blank { OnOk result (MadeBlank spare (D.state die.old) book.old (D.state die.new) book.new) }

@@ -89,9 +89,7 @@ fn collect_into<D: Die, C: Scheme>(
     ensures same_work { work.new ≡ work.old }
 {
     match blank_spare(die, book, spare) {
-        Ok(()) => copy_sealed(
-            die, scheme, work, map, book, moves, seq, victim, spare,
-        ),
+        Ok(()) => copy_sealed(die, scheme, work, map, book, moves, seq, victim, spare),
         Err(DieFault) => Err(PutFault::Change),
     }
 }
@@ -122,13 +120,13 @@ pub fn collect<D: Die, C: Scheme>(
         (store (D.state die.old) map.old book.old seq.old) (store (D.state die.new) map.new book.new seq.new) }
     ensures collected { (victim spare : ℕ) → IsCollectBranch book.old victim spare → IfOk result (λ n. (n ≡ live_at book.old victim)
         × Collected (geometry_of (D.state die.old).shape (C.meaning scheme.old) (length map.old)) (C.meaning scheme.old).decoding victim spare
-            (store (D.state die.old) map.old book.old seq.old) (store (D.state die.new) map.new book.new seq.new)) }
+        (store (D.state die.old) map.old book.old seq.old) (store (D.state die.new) map.new book.new seq.new)) }
     ensures read_failed { (victim spare : ℕ) → IsCollectBranch book.old victim spare → result ≡ Err PutFault.Read
         → CollectReadFailed (geometry_of (D.state die.old).shape (C.meaning scheme.old) (length map.old)) (C.meaning scheme.old).decoding victim spare
-            (store (D.state die.old) map.old book.old seq.old) (store (D.state die.new) map.new book.new seq.new) }
+        (store (D.state die.old) map.old book.old seq.old) (store (D.state die.new) map.new book.new seq.new) }
     ensures change_failed { (victim spare : ℕ) → IsCollectBranch book.old victim spare → result ≡ Err PutFault.Change
         → CollectChangeFailed (geometry_of (D.state die.old).shape (C.meaning scheme.old) (length map.old)) (C.meaning scheme.old).decoding victim spare
-            (store (D.state die.old) map.old book.old seq.old) (store (D.state die.new) map.new book.new seq.new) }
+        (store (D.state die.old) map.old book.old seq.old) (store (D.state die.new) map.new book.new seq.new) }
     ensures same_scheme { C.meaning scheme.new ≡ C.meaning scheme.old }
     ensures same_work { work.new ≡ work.old }
     ensures same_room { moves.new ≡ moves.old }

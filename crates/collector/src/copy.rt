@@ -185,8 +185,6 @@ pub(crate) fn copy_record<D: Die, C: Scheme>(
     if is_of_zeros(header) {
         copy_zeros(die, work, book, seq, spare, page, header)
     } else {
-        copy_bytes(
-            die, scheme, work, book, seq, spare, page, place, header,
-        )
+        copy_bytes(die, scheme, work, book, seq, spare, page, place, header)
     }
 }

@@ -67,9 +67,7 @@ fn copy_slot<D: Die, C: Scheme>(
         return Ok(copies);
     }
     let page = spare * book.pages() + copies;
-    match copy_record(
-        die, scheme, work, book, seq, spare, page, place, &header,
-    ) {
+    match copy_record(die, scheme, work, book, seq, spare, page, place, &header) {
         Ok(()) => {
             moves[copies as usize] = Move {
                 sector: header.sector,
@@ -179,7 +177,7 @@ fn copy_page<D: Die, C: Scheme>(
     requires stands { (start : Store) × Stands (geometry_of (D.state die.old).shape (C.meaning scheme.old) (length map.now)) (C.meaning scheme.old) spare start
         (store (D.state die.old) map.now book.old seq.old) (first_slot page) (page % (D.state die.old).shape.pages) copies moves.old }
     ensures ends { (start : Store) → Stands (geometry_of (D.state die.old).shape (C.meaning scheme.old) (length map.now)) (C.meaning scheme.old) spare start
-            (store (D.state die.old) map.now book.old seq.old) (first_slot page) (page % (D.state die.old).shape.pages) copies moves.old
+        (store (D.state die.old) map.now book.old seq.old) (first_slot page) (page % (D.state die.old).shape.pages) copies moves.old
         → EndsAt (D.state die.old).shape (C.meaning scheme.old) (length map.now) spare start (store (D.state die.new) map.now book.new seq.new) page (C.meaning scheme.old).generations moves.new result }
     ensures kept { Kept (D.state die.old) (D.state die.new) }
     ensures same_scheme { C.meaning scheme.new ≡ C.meaning scheme.old }

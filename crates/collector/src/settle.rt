@@ -20,13 +20,7 @@ fn entry_for(moved: Move, page: u32) -> Entry
 }
 
 /// Names the copies in the map, makes the Spare Active with them, and the victim the Spare.
-pub(crate) fn settle(
-    map: &mut SectorMap,
-    book: &mut Book,
-    moves: &[Move],
-    victim: u32,
-    spare: u32,
-)
+pub(crate) fn settle(map: &mut SectorMap, book: &mut Book, moves: &[Move], victim: u32, spare: u32)
     requires victim { victim < length book.old.states }
     requires is_spare { IsSpare book.old spare }
     requires apart { victim ≢ spare }

@@ -1,7 +1,7 @@
 -- A Spare that is known to be blank stays; any other is erased.
-use Rattle.std.proofs.Common.{◌≡◌, true, false, sym, ap, ◌∙◌}
+use Rattle.std.proofs.Common.{sym, ap, ◌∙◌}
 use Rattle.block_state.specs.declared.state.State.TheVariants.{Spare}
-use Rattle.collector.specs.Steps.{MadeBlank, was_blank, was_erased}
+use Rattle.collector.specs.Steps.{was_blank, was_erased}
 use Rattle.collector.proofs.blank.blank_spare.Goals as goal
 
 pub returns-then-blank-clause-blank : goal.returns-then-blank-clause-blank

@@ -1,5 +1,5 @@
 -- There is one victim and one Spare, so what holds of these two holds of all that the rule may mean.
-use Rattle.std.proofs.Common.{◌≡◌, ℕ, length, subst}
+use Rattle.std.proofs.Common.{ℕ, length, subst}
 use Rattle.collector.specs.Inside.{CollectEnds}
 use Rattle.collector.specs.Store.{geometry_of, store}
 use Rattle.collector.proofs.Collecting.{ends_collected, ends_read, ends_change}

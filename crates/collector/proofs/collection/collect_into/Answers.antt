@@ -1,5 +1,5 @@
 -- The Spare is made blank, and then the copies and their seal follow.
-use Rattle.std.proofs.Common.{◌≡◌, ◌<◌, ℕ, length, refl, sym, ap, ◌∙◌, subst, arith}
+use Rattle.std.proofs.Common.{◌<◌, ℕ, length, refl, sym, subst}
 use Rattle.cell_die.specs.declared.shape.Shape.{Shape}
 use Rattle.striped.specs.Meaning.{Meaning}
 use Rattle.block_state.specs.Book.{BookValue}

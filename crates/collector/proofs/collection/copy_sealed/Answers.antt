@@ -1,17 +1,15 @@
 -- The copies are made, the seal is charged, and map and book are settled.
-use Rattle.std.proofs.Common.{◌≡◌, ◌⊎◌, inl, inr, ◌+◌, ◌*◌, ◌<◌, ◌≤◌, ℕ, Ok, Err, length, take, List, Option, refl, sym, ap, ap₂, ◌∙◌, subst, arith}
+use Rattle.std.proofs.Common.{◌≡◌, inl, inr, ◌*◌, ◌<◌, ℕ, length, take, sym, ap, ◌∙◌, subst, arith}
 use Rattle.std.proofs.lemmas.List.{length-take-le}
 use Rattle.cell_die.specs.declared.shape.Shape.{Shape}
 use Rattle.cell_die.specs.Cells.{charge}
 use Rattle.cell_die.specs.DieState.{page_of, page_count}
 use Rattle.cell_die.specs.Changes.{OnlyPage}
 use Rattle.spare_gate.specs.Slots.{seal_cell_of}
-use Rattle.block_state.specs.Book.{BookValue}
-use Rattle.collector.specs.Collections.{Collected}
 use Rattle.collector.specs.Settles.{NamesMoves, settled}
-use Rattle.collector.specs.Store.{geometry_of, store, Holds}
+use Rattle.collector.specs.Store.{geometry_of, store}
 use Rattle.collector.proofs.BooksSettled.{names_whole}
-use Rattle.collector.proofs.SealSteps.{copies_are, book_pages, first_there, spare_now, victim_in, none_live, none_active_now, sectors_in, holds_sealed, collected, seal_failed_charged, holds_unsealed, seal_failed}
+use Rattle.collector.proofs.SealSteps.{copies_are, book_pages, first_there, spare_now, none_live, none_active_now, sectors_in, holds_sealed, collected, seal_failed_charged, holds_unsealed, seal_failed}
 use Rattle.collector.proofs.collection.copy_sealed.Goals as goal
 
 pub charge_seal-requires-clause-page : goal.charge_seal-requires-clause-page
@@ -51,15 +49,15 @@ pub returns-in-Ok-charge_seal-clause-ends : goal.returns-in-Ok-charge_seal-claus
 returns-in-Ok-charge_seal-clause-ends g c = (
   copies_are (geometry_of (g.D.Die.state c.args.die.now).shape (g.C.Scheme.meaning c.args.scheme.now) (length c.args.map.now)) (g.C.Scheme.meaning c.args.scheme.now) c.args.victim c.args.spare (store (g.D.Die.state c.args.die.now) c.args.map.now c.args.book.now c.args.seq.now) (store (g.D.Die.state c.copy_block.new.die) c.args.map.now c.copy_block.new.book c.copy_block.new.seq) c.in-Ok.copies c.copy_block.new.moves c.requires.begun c.in-Ok.ensures.ends (g.met.D.Die.shaped c.copy_block.new.die),
   collected (geometry_of (g.D.Die.state c.args.die.now).shape (g.C.Scheme.meaning c.args.scheme.now) (length c.args.map.now)) (g.C.Scheme.meaning c.args.scheme.now) c.args.victim c.args.spare (store (g.D.Die.state c.args.die.now) c.args.map.now c.args.book.now c.args.seq.now) (store (g.D.Die.state c.copy_block.new.die) c.args.map.now c.copy_block.new.book c.copy_block.new.seq) c.in-Ok.copies c.copy_block.new.moves c.requires.begun c.in-Ok.ensures.ends (g.met.D.Die.shaped c.copy_block.new.die) (g.D.Die.state c.charge_seal.new.die)
-    (subst (λ (q : ℕ). OnlyPage q (g.D.Die.state c.copy_block.new.die) (g.D.Die.state c.charge_seal.new.die)) (ap (λ (k : ℕ). c.args.spare * k) (c.pages.ensures.value ∙ book_pages (geometry_of (g.D.Die.state c.args.die.now).shape (g.C.Scheme.meaning c.args.scheme.now) (length c.args.map.now)) (g.C.Scheme.meaning c.args.scheme.now) c.args.victim c.args.spare (store (g.D.Die.state c.args.die.now) c.args.map.now c.args.book.now c.args.seq.now) (store (g.D.Die.state c.copy_block.new.die) c.args.map.now c.copy_block.new.book c.copy_block.new.seq) c.in-Ok.copies c.copy_block.new.moves c.requires.begun c.in-Ok.ensures.ends (g.met.D.Die.shaped c.copy_block.new.die))) c.charge_seal.ensures.only_page)
-    (subst (λ (q : ℕ). page_of (g.D.Die.state c.charge_seal.new.die) q ≡ charge (page_of (g.D.Die.state c.copy_block.new.die) q) (seal_cell_of (g.D.Die.state c.copy_block.new.die).shape.main_bytes)) (ap (λ (k : ℕ). c.args.spare * k) (c.pages.ensures.value ∙ book_pages (geometry_of (g.D.Die.state c.args.die.now).shape (g.C.Scheme.meaning c.args.scheme.now) (length c.args.map.now)) (g.C.Scheme.meaning c.args.scheme.now) c.args.victim c.args.spare (store (g.D.Die.state c.args.die.now) c.args.map.now c.args.book.now c.args.seq.now) (store (g.D.Die.state c.copy_block.new.die) c.args.map.now c.copy_block.new.book c.copy_block.new.seq) c.in-Ok.copies c.copy_block.new.moves c.requires.begun c.in-Ok.ensures.ends (g.met.D.Die.shaped c.copy_block.new.die))) c.in-Ok-charge_seal.ensures.charged)
-    c.requires.some_live c.settle.new.map c.settle.new.book
-    (names_whole (c.args.spare * (g.D.Die.state c.args.die.now).shape.pages) c.copy_block.new.moves (length (c.in-Ok.ensures.ends).records) c.args.map.now c.settle.new.map
-    (subst (λ (k : ℕ). NamesMoves (c.args.spare * (g.D.Die.state c.args.die.now).shape.pages) (take k c.copy_block.new.moves) k c.args.map.now c.settle.new.map) (c.in-Ok.ensures.ends).copied
-    (subst (λ (k : ℕ). NamesMoves (c.args.spare * (g.D.Die.state c.args.die.now).shape.pages) (take c.in-Ok.copies c.copy_block.new.moves) k c.args.map.now c.settle.new.map) (length-take-le c.in-Ok.copies c.copy_block.new.moves (omega (arith, copies_are (geometry_of (g.D.Die.state c.args.die.now).shape (g.C.Scheme.meaning c.args.scheme.now) (length c.args.map.now)) (g.C.Scheme.meaning c.args.scheme.now) c.args.victim c.args.spare (store (g.D.Die.state c.args.die.now) c.args.map.now c.args.book.now c.args.seq.now) (store (g.D.Die.state c.copy_block.new.die) c.args.map.now c.copy_block.new.book c.copy_block.new.seq) c.in-Ok.copies c.copy_block.new.moves c.requires.begun c.in-Ok.ensures.ends (g.met.D.Die.shaped c.copy_block.new.die), c.requires.begun.few, c.requires.room, c.copy_block.auto.moves)))
-    (subst (λ (k : ℕ). NamesMoves (c.args.spare * k) (take c.in-Ok.copies c.copy_block.new.moves) (length (take c.in-Ok.copies c.copy_block.new.moves)) c.args.map.now c.settle.new.map) (book_pages (geometry_of (g.D.Die.state c.args.die.now).shape (g.C.Scheme.meaning c.args.scheme.now) (length c.args.map.now)) (g.C.Scheme.meaning c.args.scheme.now) c.args.victim c.args.spare (store (g.D.Die.state c.args.die.now) c.args.map.now c.args.book.now c.args.seq.now) (store (g.D.Die.state c.copy_block.new.die) c.args.map.now c.copy_block.new.book c.copy_block.new.seq) c.in-Ok.copies c.copy_block.new.moves c.requires.begun c.in-Ok.ensures.ends (g.met.D.Die.shaped c.copy_block.new.die)) c.settle.ensures.map))))
-    (c.settle.ensures.book ∙ ap (settled c.copy_block.new.book c.args.victim c.args.spare) ((length-take-le c.in-Ok.copies c.copy_block.new.moves (omega (arith, copies_are (geometry_of (g.D.Die.state c.args.die.now).shape (g.C.Scheme.meaning c.args.scheme.now) (length c.args.map.now)) (g.C.Scheme.meaning c.args.scheme.now) c.args.victim c.args.spare (store (g.D.Die.state c.args.die.now) c.args.map.now c.args.book.now c.args.seq.now) (store (g.D.Die.state c.copy_block.new.die) c.args.map.now c.copy_block.new.book c.copy_block.new.seq) c.in-Ok.copies c.copy_block.new.moves c.requires.begun c.in-Ok.ensures.ends (g.met.D.Die.shaped c.copy_block.new.die), c.requires.begun.few, c.requires.room, c.copy_block.auto.moves))) ∙ (c.in-Ok.ensures.ends).copied))
-    c.settle.ensures.valid c.in-Ok-charge_seal.ensures.passed,
+      (subst (λ (q : ℕ). OnlyPage q (g.D.Die.state c.copy_block.new.die) (g.D.Die.state c.charge_seal.new.die)) (ap (λ (k : ℕ). c.args.spare * k) (c.pages.ensures.value ∙ book_pages (geometry_of (g.D.Die.state c.args.die.now).shape (g.C.Scheme.meaning c.args.scheme.now) (length c.args.map.now)) (g.C.Scheme.meaning c.args.scheme.now) c.args.victim c.args.spare (store (g.D.Die.state c.args.die.now) c.args.map.now c.args.book.now c.args.seq.now) (store (g.D.Die.state c.copy_block.new.die) c.args.map.now c.copy_block.new.book c.copy_block.new.seq) c.in-Ok.copies c.copy_block.new.moves c.requires.begun c.in-Ok.ensures.ends (g.met.D.Die.shaped c.copy_block.new.die))) c.charge_seal.ensures.only_page)
+      (subst (λ (q : ℕ). page_of (g.D.Die.state c.charge_seal.new.die) q ≡ charge (page_of (g.D.Die.state c.copy_block.new.die) q) (seal_cell_of (g.D.Die.state c.copy_block.new.die).shape.main_bytes)) (ap (λ (k : ℕ). c.args.spare * k) (c.pages.ensures.value ∙ book_pages (geometry_of (g.D.Die.state c.args.die.now).shape (g.C.Scheme.meaning c.args.scheme.now) (length c.args.map.now)) (g.C.Scheme.meaning c.args.scheme.now) c.args.victim c.args.spare (store (g.D.Die.state c.args.die.now) c.args.map.now c.args.book.now c.args.seq.now) (store (g.D.Die.state c.copy_block.new.die) c.args.map.now c.copy_block.new.book c.copy_block.new.seq) c.in-Ok.copies c.copy_block.new.moves c.requires.begun c.in-Ok.ensures.ends (g.met.D.Die.shaped c.copy_block.new.die))) c.in-Ok-charge_seal.ensures.charged)
+      c.requires.some_live c.settle.new.map c.settle.new.book
+      (names_whole (c.args.spare * (g.D.Die.state c.args.die.now).shape.pages) c.copy_block.new.moves (length (c.in-Ok.ensures.ends).records) c.args.map.now c.settle.new.map
+      (subst (λ (k : ℕ). NamesMoves (c.args.spare * (g.D.Die.state c.args.die.now).shape.pages) (take k c.copy_block.new.moves) k c.args.map.now c.settle.new.map) (c.in-Ok.ensures.ends).copied
+      (subst (λ (k : ℕ). NamesMoves (c.args.spare * (g.D.Die.state c.args.die.now).shape.pages) (take c.in-Ok.copies c.copy_block.new.moves) k c.args.map.now c.settle.new.map) (length-take-le c.in-Ok.copies c.copy_block.new.moves (omega (arith, copies_are (geometry_of (g.D.Die.state c.args.die.now).shape (g.C.Scheme.meaning c.args.scheme.now) (length c.args.map.now)) (g.C.Scheme.meaning c.args.scheme.now) c.args.victim c.args.spare (store (g.D.Die.state c.args.die.now) c.args.map.now c.args.book.now c.args.seq.now) (store (g.D.Die.state c.copy_block.new.die) c.args.map.now c.copy_block.new.book c.copy_block.new.seq) c.in-Ok.copies c.copy_block.new.moves c.requires.begun c.in-Ok.ensures.ends (g.met.D.Die.shaped c.copy_block.new.die), c.requires.begun.few, c.requires.room, c.copy_block.auto.moves)))
+      (subst (λ (k : ℕ). NamesMoves (c.args.spare * k) (take c.in-Ok.copies c.copy_block.new.moves) (length (take c.in-Ok.copies c.copy_block.new.moves)) c.args.map.now c.settle.new.map) (book_pages (geometry_of (g.D.Die.state c.args.die.now).shape (g.C.Scheme.meaning c.args.scheme.now) (length c.args.map.now)) (g.C.Scheme.meaning c.args.scheme.now) c.args.victim c.args.spare (store (g.D.Die.state c.args.die.now) c.args.map.now c.args.book.now c.args.seq.now) (store (g.D.Die.state c.copy_block.new.die) c.args.map.now c.copy_block.new.book c.copy_block.new.seq) c.in-Ok.copies c.copy_block.new.moves c.requires.begun c.in-Ok.ensures.ends (g.met.D.Die.shaped c.copy_block.new.die)) c.settle.ensures.map))))
+      (c.settle.ensures.book ∙ ap (settled c.copy_block.new.book c.args.victim c.args.spare) ((length-take-le c.in-Ok.copies c.copy_block.new.moves (omega (arith, copies_are (geometry_of (g.D.Die.state c.args.die.now).shape (g.C.Scheme.meaning c.args.scheme.now) (length c.args.map.now)) (g.C.Scheme.meaning c.args.scheme.now) c.args.victim c.args.spare (store (g.D.Die.state c.args.die.now) c.args.map.now c.args.book.now c.args.seq.now) (store (g.D.Die.state c.copy_block.new.die) c.args.map.now c.copy_block.new.book c.copy_block.new.seq) c.in-Ok.copies c.copy_block.new.moves c.requires.begun c.in-Ok.ensures.ends (g.met.D.Die.shaped c.copy_block.new.die), c.requires.begun.few, c.requires.room, c.copy_block.auto.moves))) ∙ (c.in-Ok.ensures.ends).copied))
+      c.settle.ensures.valid c.in-Ok-charge_seal.ensures.passed,
 )
 
 pub returns-in-Err-charge_seal-clause-holds : goal.returns-in-Err-charge_seal-clause-holds

@@ -1,6 +1,5 @@
 -- What carries the sector decodes to it.
-use Rattle.std.proofs.Common.{◌≡◌, arith}
-use Rattle.striped.specs.Meaning.{IsSector}
+use Rattle.std.proofs.Common.{arith}
 use Rattle.collector.proofs.CopiedBytes.{sector_put}
 use Rattle.collector.proofs.copy.put_bytes.Goals as goal
 

@@ -1,5 +1,5 @@
 -- Page after page; the numbers of the next page follow from those of the victim.
-use Rattle.std.proofs.Common.{◌≡◌, ◌+◌, ◌*◌, ◌/◌, ◌%◌, ◌<◌, ◌≤◌, ℕ, Ok, Err, length, refl, sym, ap, ◌∙◌, subst, arith, zero-mul}
+use Rattle.std.proofs.Common.{◌≡◌, ◌+◌, ◌*◌, ◌%◌, ℕ, Ok, Err, length, refl, sym, ap, ◌∙◌, subst, arith, zero-mul}
 use Rattle.cell_die.specs.declared.shape.Shape.{Shape}
 use Rattle.cell_die.proofs.Sequences.{kept_refl, kept_trans}
 use Rattle.striped.specs.Meaning.{Meaning}

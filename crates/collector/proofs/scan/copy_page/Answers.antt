@@ -1,10 +1,8 @@
 -- The page is scanned, and then its live records are copied.
-use Rattle.std.proofs.Common.{◌≡◌, ◌+◌, ◌/◌, ◌%◌, ℕ, length, refl, sym, ap, ap₂, ◌∙◌, subst}
+use Rattle.std.proofs.Common.{length, refl}
 use Rattle.cell_die.specs.declared.shape.Shape.{Shape}
-use Rattle.cell_die.specs.Cells.{page_at}
 use Rattle.cell_die.proofs.Sequences.{kept_trans}
 use Rattle.striped.specs.Meaning.{Meaning}
-use Rattle.page_codec.specs.Seen.{seen_page}
 use Rattle.collector.specs.Store.{geometry_of, store}
 use Rattle.collector.specs.Inside.{StandsAt, EndsAt}
 use Rattle.collector.proofs.Pages.{moved_to, moved_back, page_scanned, scan_failed}

@@ -1,12 +1,10 @@
 -- The record of a slot is live where the map names the slot; then there is a page left for its copy.
-use Rattle.std.proofs.Common.{◌≡◌, ◌+◌, ◌*◌, ◌/◌, ◌%◌, ◌<◌, ℕ, Bool, true, Some, Err, length, slice_set, sym, ap, ◌∙◌, subst, arith}
+use Rattle.std.proofs.Common.{◌≡◌, ◌+◌, ◌*◌, ◌/◌, ◌%◌, ◌<◌, ℕ, Bool, true, length, slice_set, sym, ap, ◌∙◌, subst, arith}
 use Rattle.std.proofs.lemmas.Option.{none-some, same_Some}
 use Rattle.zero_count.specs.declared.Header.{Header}
 use Rattle.cell_die.specs.Cells.{page_at, is_blank}
 use Rattle.cell_die.specs.DieState.{page_count}
 use Rattle.sector_map.specs.Entry.{entry_at}
-use Rattle.page_codec.specs.Sectors.{says_zeros}
-use Rattle.collector.specs.declared.moves.Move.{Move}
 use Rattle.collector.specs.Store.{geometry_of, store}
 use Rattle.collector.specs.Inside.{names_place, Reached}
 use Rattle.collector.proofs.Found.{slot_skipped, found_room, found_few, found_page, found_blank, found_spare, found_seq, found_pages, found_reads, slot_copied, slot_failed}

@@ -1,12 +1,10 @@
 -- One move more is counted and named.
-use Rattle.std.proofs.Common.{◌≡◌, ◌+◌, ◌*◌, ◌<◌, ℕ, false, length, List, Option, Some, slice_set, refl, sym, ap, ap₂, ◌∙◌, subst, arith, length-set}
-use Rattle.std.proofs.lemmas.List.{get_or_default}
+use Rattle.std.proofs.Common.{◌≡◌, ◌+◌, ◌*◌, ◌<◌, ℕ, false, length, Some, slice_set, refl, sym, ap, ◌∙◌, subst, arith}
 use Rattle.sector_map.specs.declared.entry.Entry.{Entry}
 use Rattle.block_state.specs.declared.state.State.TheVariants.{Active}
 use Rattle.block_state.specs.State.{is_closed}
 use Rattle.block_state.specs.Book.{BookValue, state_at, live_at, with_state, with_live}
-use Rattle.collector.specs.declared.moves.Move.{Move}
-use Rattle.collector.specs.Settles.{NamesMoves, move_at, entry_on, no_move}
+use Rattle.collector.specs.Settles.{NamesMoves, move_at}
 use Rattle.collector.proofs.Books.{state_here, live_here}
 use Rattle.collector.proofs.BooksSettled.{live_twice, names_more}
 use Rattle.collector.proofs.Sparing.{spare_within}
