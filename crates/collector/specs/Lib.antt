@@ -4,3 +4,6 @@ pub mod Moves
 pub mod Named
 pub mod Again
 pub mod Collections
+pub mod Steps
+pub mod Settles
+pub mod Inside

@@ -4,9 +4,18 @@
 #![tactic(auto)]
 
 mod again;
+mod blank;
+mod collection;
+mod copy;
 mod effect;
 mod idle;
 mod live;
+mod moves;
+mod scan;
+mod seal;
+mod settle;
 
+pub use collection::collect;
 pub use effect::record_effect;
 pub use idle::move_one;
+pub use moves::Moves;
