@@ -1,15 +1,14 @@
 -- Lines that change nothing: refusals, and `stat`.
-use Rattle.std.proofs.Common.{◌≡◌, ◌≢◌, ℕ, ◌^◌, ◌+◌, ◌≤◌, ◌<◌, List, [], false, length, refl, arith, sym, ap, ◌∙◌}
+use Rattle.std.proofs.Common.{◌≡◌, ◌≢◌, ℕ, ◌^◌, ◌≤◌, ◌<◌, List, [], false, length, refl, arith, sym, ap, ◌∙◌}
 use Rattle.rssd_script.specs.declared.lines.Line.{Line}
 use Rattle.rssd_script.specs.declared.lines.Line.TheVariants.{Write, Read, Trim, Idle, Cut, FailRead, Mount, Stat}
 use Rattle.rssd_script.specs.declared.replies.Reply.{Reply}
 use Rattle.rssd_script.specs.declared.replies.Reply.TheVariants.{Range, Long, Spent, Off as SaysOff, Fault, NoSpare, Stat as Counts}
 use Rattle.rssd_core.specs.SectorArray.{filled_up}
-use Rattle.rssd_core.specs.DeviceValue.{Numbers, DeviceView, DeviceValue, rows_of}
-use Rattle.rssd_core.specs.Moves.{MovesBook, MovesSeq}
+use Rattle.rssd_core.specs.DeviceValue.{Numbers, DeviceView, DeviceValue}
 use Rattle.rssd_run.specs.ArrayWithCuts.{ArrayState, On, Off, Row}
 use Rattle.rssd_run.specs.View.{View, Event, StandsFor, NoFailure, IsOn, IsOff, erased}
-use Rattle.rssd_run.specs.Held.{Tallies, plus, on, off}
+use Rattle.rssd_run.specs.Held.{Tallies, on, off}
 use Rattle.rssd_run.specs.Armed.{Arms, change_calls, read_calls}
 use Rattle.rssd_run.specs.Moves.{BookMoves, ByRules, MayChange, RisesBy}
 use Rattle.rssd_run.specs.Placing.{IsTried, PlacedExactly}

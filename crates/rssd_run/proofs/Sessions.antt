@@ -1,24 +1,21 @@
 -- Steps of a device are steps of the session that has it.
-use Rattle.std.proofs.Common.{◌≡◌, ◌⊎◌, inl, inr, ℕ, ◌+◌, ◌-◌, ◌≤◌, ◌<◌, ◌^◌, Bool, true, false, List, Option, None, Some, refl, arith, sym, ap, ◌∙◌, subst}
+use Rattle.std.proofs.Common.{◌≡◌, ℕ, Bool, true, false, List, Option, None, Some, refl, arith, sym, ap, subst}
 use Rattle.std.proofs.lemmas.Option.{none-some}
 use Rattle.cell_die.specs.DieState.{DieState}
-use Rattle.page_codec.specs.Geometry.{shape_of}
 use Rattle.rssd_script.specs.declared.lines.Line.{Line}
 use Rattle.rssd_script.specs.declared.lines.Line.TheVariants.{Mount, Stat}
 use Rattle.rssd_script.specs.declared.replies.Reply.{Reply}
 use Rattle.rssd_script.specs.declared.replies.Reply.TheVariants.{Done, Off as SaysOff}
 use Rattle.striped.specs.Meaning.{Meaning}
 use Rattle.rssd_core.specs.declared.device.Plan.{Plan}
-use Rattle.rssd_core.specs.Failures.{Tells}
-use Rattle.rssd_core.specs.Mount.{numbers_of}
 use Rattle.rssd_core.specs.DeviceValue.{Numbers, DeviceView, DeviceValue, rows_of}
 use Rattle.rssd_core.specs.declared.device.MountError.{MountError}
 use Rattle.rssd_run.specs.ArrayWithCuts.{ArrayState, On, Off}
 use Rattle.rssd_run.specs.View.{View, IsArrayOf, IsOn, IsOff, StandsFor}
 use Rattle.rssd_run.specs.Held.{Tallies, plus, tallies_of, on, off, refused, after_refusal}
-use Rattle.rssd_run.specs.Step.{IsStep, AlwaysAnswered, TrueWhileOn}
+use Rattle.rssd_run.specs.Step.{AlwaysAnswered, TrueWhileOn}
 use Rattle.rssd_run.specs.Steps.{ArrayIs, IsKept, Steps, MountDone, MountRefused, refusal_reply}
-use Rattle.rssd_run.specs.Shows.{Holding, Mounted, Closed, Nothing, HasNumbers, AreSmall, SessionValue, Shows, ShowsHolding, StepsSession, IsPlanned, IsHeld, SaysStat, holding_of, stat_of}
+use Rattle.rssd_run.specs.Shows.{Holding, Mounted, Closed, Nothing, HasNumbers, AreSmall, SessionValue, Shows, ShowsHolding, StepsSession, IsHeld, SaysStat, holding_of}
 use Rattle.rssd_run.proofs.Refused.{IsSmall, off_step, stat_step}
 
 array_stands : (stopped : Bool) (rows : List (List ℕ)) (array : ArrayState) → ArrayIs stopped rows array → IsArrayOf rows array

@@ -1,4 +1,4 @@
-use Rattle.std.proofs.Common.{◌≡◌, ap, Err, arith}
+use Rattle.std.proofs.Common.{arith}
 use Rattle.rssd_core.specs.DeviceValue.{DeviceValue}
 use Rattle.rssd_run.proofs.Refused.{write_range, write_long}
 use Rattle.rssd_run.proofs.run.line.write_line.Goals as goal
