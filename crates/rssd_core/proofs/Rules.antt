@@ -1,6 +1,6 @@
 -- What `page_alloc` and `reuse_pool` answer is what the rules give.
-use Rattle.std.proofs.Common.{◌≡◌, ◌⊎◌, inl, inr, ℕ, zero, suc, ◌+◌, ◌*◌, ◌<◌, ◌≤◌, Bool, true, false, cond, eqb, ltb, List, [], ◌∷◌, length, get_or, Option, Some, None, if◌then◌else◌, refl, sym, ap, ◌∙◌, subst, arith}
-use Rattle.std.specs.List.{fold, reduce, position, position_or_len}
+use Rattle.std.proofs.Common.{◌≡◌, ◌⊎◌, inl, inr, ℕ, zero, suc, ◌+◌, ◌*◌, ◌<◌, ◌≤◌, Bool, true, false, cond, eqb, ltb, List, [], ◌∷◌, length, get_or, Some, None, if◌then◌else◌, refl, sym, ap, ◌∙◌, subst, arith}
+use Rattle.std.specs.List.{fold, reduce, position_or_len}
 use Rattle.std.proofs.lemmas.Bool.{cases_eq, cases_lt, cases_Bool, eq-eqb, ne_eqb, false≢true}
 use Rattle.std.proofs.lemmas.Bool.Decides.{nat_tests}
 use Rattle.std.proofs.lemmas.List.{get_or_past}
@@ -13,11 +13,11 @@ use Rattle.block_state.specs.Book.{BookValue, state_at, live_at, IsActive, IsClo
 use Rattle.block_state.specs.Victim.{IsVictim}
 use Rattle.page_alloc.specs.declared.next_page.NextPage.{NextPage}
 use Rattle.page_alloc.specs.declared.next_page.NextPage.TheVariants.{Page, Take, Wipe, Collect}
-use Rattle.page_alloc.specs.CleanPage.{IsNext, IsClean, NoneCleanBelow, NoneOpen}
+use Rattle.page_alloc.specs.CleanPage.{IsNext, NoneOpen}
 use Rattle.reuse_pool.specs.declared.unit.ReuseUnit.{ReuseUnit}
 use Rattle.reuse_pool.specs.Offer.{is_recycled, IsOffer, NoneRecycledBelow}
 use Rattle.mount_scan.specs.Settled.{is_clean}
-use Rattle.rssd_core.specs.Rules.{first_block, fewer, victim_of, fill_of, from_active, from_clean, from_victim, next_page, unit_in, unit_of, offer_of}
+use Rattle.rssd_core.specs.Rules.{first_block, victim_of, fill_of, from_active, from_clean, from_victim, next_page, unit_in, unit_of, offer_of}
 
 -- ---- the first place at which a test passes
 

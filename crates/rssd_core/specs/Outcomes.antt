@@ -1,5 +1,5 @@
 -- What a call of a device leaves, one record for each outcome.
-use Rattle.std.specs.Prelude.{◌≡◌, ◌⊎◌, ℕ, ◌+◌, ◌*◌, ◌^◌, ◌<◌, ◌≤◌, true, false, List, length, All, slice_set, replicate}
+use Rattle.std.specs.Prelude.{◌≡◌, ◌⊎◌, ℕ, ◌+◌, ◌*◌, ◌^◌, ◌<◌, ◌≤◌, true, false, List, All, slice_set, replicate}
 use Rattle.cell_die.specs.Counts.{count_sum}
 use Rattle.cell_die.specs.Changes.{SameCells}
 use Rattle.cell_die.specs.Calls.{Kept, ChangeFailed, ReadFailed, PassedWithin}

@@ -1,30 +1,18 @@
 -- Trims and idle calls: what a device's call leaves makes a step.
-use Rattle.std.proofs.Common.{◌≡◌, ◌≢◌, ◌⊎◌, inl, inr, ℕ, ◌^◌, ◌+◌, ◌-◌, ◌≤◌, ◌<◌, List, [], length, Option, None, Some, refl, arith, sym, ap, ◌∙◌, slice_set}
-use Rattle.std.proofs.lemmas.Option.{none-some}
-use Rattle.cell_die.specs.Counts.{Rose, count_sum}
-use Rattle.reuse_pool.specs.declared.unit.ReuseUnit.{ReuseUnit}
-use Rattle.rssd_core.specs.Rules.{offer_of}
-use Rattle.rssd_script.specs.declared.lines.Line.{Line}
+use Rattle.std.proofs.Common.{inl, inr, ℕ, ◌<◌, refl, arith, ap}
 use Rattle.rssd_script.specs.declared.lines.Line.TheVariants.{Trim, Idle}
-use Rattle.rssd_script.specs.declared.replies.Reply.{Reply}
 use Rattle.rssd_script.specs.declared.replies.Reply.TheVariants.{Done, Moves, Fault}
-use Rattle.rssd_core.specs.declared.device.Placed.{Placed}
-use Rattle.rssd_core.specs.declared.device.Placed.TheVariants.{First as PutFirst, Second as PutSecond, Declined as PutDeclined}
 use Rattle.rssd_core.specs.SectorArray.{trimmed}
-use Rattle.page_codec.specs.Sound.{IsSound}
 use Rattle.rssd_core.specs.DeviceValue.{Numbers, DeviceView, DeviceValue, rows_of}
-use Rattle.rssd_core.specs.Failures.{Lowers, TellsPower}
+use Rattle.rssd_core.specs.Failures.{TellsPower}
 use Rattle.rssd_core.specs.Within.{WithinTrim, WithinIdle, Went}
-use Rattle.rssd_core.specs.Writes.{OfferCarries, OfferDeclines, OverUnit, OnCleanPage}
-use Rattle.rssd_core.specs.Outcomes.{Holds, Trimmed, TrimFault, Idled, IdleFault, zeros, ReadFault, ChangeFault, CountsOne, SameCounts}
+use Rattle.rssd_core.specs.Outcomes.{Holds, Trimmed, TrimFault, Idled, IdleFault, ReadFault, ChangeFault}
 use Rattle.rssd_run.specs.ArrayWithCuts.{On, Off}
-use Rattle.rssd_run.specs.View.{View, Event, NoFailure, ACut, AReadFailure}
+use Rattle.rssd_run.specs.View.{Event, NoFailure}
 use Rattle.rssd_run.specs.Held.{Tallies, plus, on, off, Calm}
-use Rattle.rssd_run.specs.Placing.{IsTried, PlacedExactly}
-use Rattle.rssd_run.specs.Armed.{ArmedExactly, FaultWithin}
-use Rattle.rssd_run.specs.Step.{IsStep, AnswersExactly, RefusedExactly, FaultExactly, TalliesRise}
+use Rattle.rssd_run.specs.Step.{IsStep}
 use Rattle.rssd_run.proofs.Came.{went_lowers, none_came, ACutCame, change_came, AReadCame, read_came, change_rose, read_rose}
-use Rattle.rssd_core.specs.Moves.{IdleMoves, MovesInOrder}
+use Rattle.rssd_core.specs.Moves.{IdleMoves}
 use Rattle.cell_die.specs.DieState.{DieState}
 use Rattle.cell_die.specs.Calls.{PassedWithin}
 use Rattle.rssd_run.proofs.WriteSteps.{event_of, must_not, calm_rows}
@@ -42,7 +30,7 @@ idle_plus d base n old new changes reads w = record {
   reads_at_most = w.reads_at_most;
 }
 
-moves_plus : (d : Numbers) (base : Tallies) (old new : DeviceView) (k : ℕ) → IdleMoves d old new k → IdleMoves d (plus base old) (plus base new) k
+pub moves_plus : (d : Numbers) (base : Tallies) (old new : DeviceView) (k : ℕ) → IdleMoves d old new k → IdleMoves d (plus base old) (plus base new) k
 moves_plus d base old new k m = (m.0, m.1, m.2, m.3, m.4, record { distinct = m.5.distinct; moved = m.5.moved; others = m.5.others })
 
 pub bounded : {changes reads : ℕ} {old new : DieState} → PassedWithin changes reads old new → Went changes reads (Unit {0}) old new

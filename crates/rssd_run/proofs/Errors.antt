@@ -1,8 +1,8 @@
 -- What the errors of a device's call tell, over plain values.
-use Rattle.std.proofs.Common.{◌≡◌, inl, inr, ℕ, ◌<◌, ◌≤◌, Result, Ok, Err, sym, ◌∙◌, arith}
+use Rattle.std.proofs.Common.{◌≡◌, inl, inr, ℕ, ◌<◌, ◌≤◌, Result, Ok, Err, sym, ◌∙◌}
 use Rattle.std.proofs.lemmas.Bool.{cases_lt}
 use Rattle.rssd_core.specs.declared.device.FtlError.{FtlError}
-use Rattle.rssd_core.specs.declared.device.FtlError.TheVariants.{BadSector, Stopped, DieFault, Spent}
+use Rattle.rssd_core.specs.declared.device.FtlError.TheVariants.{BadSector, DieFault, Spent}
 
 same_error : {T : Type 0} (e f : FtlError) → ◌≡◌ {A = Result T FtlError} (Err e) (Err f) → e ≡ f
 same_error e f same = cc

@@ -1,12 +1,10 @@
 -- What the fields of a session make of it.
-use Rattle.std.proofs.Common.{◌≡◌, ◌⊎◌, ℕ, ◌<◌, ◌^◌, Bool, true, false, Option, None, Some, refl, sym, ap, ◌∙◌, subst, arith}
+use Rattle.std.proofs.Common.{◌≡◌, ℕ, true, false, Option, None, Some, refl, sym, ap, ◌∙◌, subst}
 use Rattle.std.specs.Prelude.{IfSome, IfNone}
 use Rattle.std.specs.Option.{option_map}
-use Rattle.std.proofs.lemmas.Option.{none-some}
 use Rattle.cell_die.specs.Counts.{count_sum, sum_of}
 use Rattle.cell_die.specs.DieState.{DieState}
 use Rattle.striped.specs.Meaning.{Meaning}
-use Rattle.page_codec.specs.Geometry.{shape_of}
 use Rattle.rssd_script.specs.declared.lines.Line.{Line}
 use Rattle.rssd_script.specs.declared.lines.Line.TheVariants.{Write, Read, Trim, Idle, Cut, FailRead, Mount, Stat}
 use Rattle.rssd_script.specs.declared.replies.Reply.{Reply}
@@ -17,11 +15,11 @@ use Rattle.rssd_core.specs.declared.device.MountError.{MountError}
 use Rattle.rssd_core.specs.DeviceValue.{Numbers, DeviceView, DeviceValue}
 use Rattle.rssd_core.specs.Mount.{numbers_of}
 use Rattle.rssd_run.specs.View.{View}
-use Rattle.rssd_run.specs.Held.{Tallies, plus, tallies_of, added_tallies}
+use Rattle.rssd_run.specs.Held.{Tallies, tallies_of, added_tallies}
 use Rattle.rssd_run.specs.Step.{AlwaysAnswered}
-use Rattle.rssd_run.specs.Steps.{IsKept, Steps, MountDone, MountRefused, refusal_reply}
-use Rattle.rssd_run.specs.Shows.{Holding, Mounted, Closed, Nothing, HasNumbers, AreSmall, Parts, SessionValue, ShowsHolding, StepsSession, IsPlanned, IsHeld, IsSession, IsDeviceLine, holding_of, session_of, tallies, stat_of, SaysStat}
-use Rattle.rssd_run.proofs.Sessions.{running_steps, IsDown, stopped_down, closed_down, off_steps, stat_steps, IsClosed, mounted_steps, refused_steps}
+use Rattle.rssd_run.specs.Steps.{Steps, MountDone, MountRefused, refusal_reply}
+use Rattle.rssd_run.specs.Shows.{Holding, Mounted, Closed, HasNumbers, AreSmall, Parts, SessionValue, ShowsHolding, StepsSession, IsHeld, IsSession, IsDeviceLine, holding_of, session_of, tallies, stat_of, SaysStat}
+use Rattle.rssd_run.proofs.Sessions.{running_steps, stopped_down, closed_down, off_steps, stat_steps, IsClosed, mounted_steps, refused_steps}
 
 -- a line that a device answers is none that is always answered
 pub device_line : (line : Line) → IsDeviceLine line → AlwaysAnswered line → ⊥

@@ -1,5 +1,5 @@
 -- Lines that arm failures, and reads.
-use Rattle.std.proofs.Common.{◌≡◌, ◌≢◌, ◌⊎◌, inl, inr, ℕ, ◌^◌, ◌+◌, ◌-◌, ◌≤◌, ◌<◌, List, [], false, length, None, Some, refl, arith, sym, ap, ◌∙◌, slice_index_or}
+use Rattle.std.proofs.Common.{◌≡◌, inr, ℕ, ◌≤◌, ◌<◌, List, [], false, refl, arith, ap, slice_index_or}
 use Rattle.cell_die.specs.DieState.{DieState}
 use Rattle.cell_die.specs.Changes.{SameCells}
 use Rattle.cell_die.specs.Calls.{Passed, ReadFailed}
@@ -8,13 +8,13 @@ use Rattle.rssd_script.specs.declared.lines.TornWord.{TornWord}
 use Rattle.rssd_script.specs.declared.lines.Line.TheVariants.{Cut, FailRead, Read}
 use Rattle.rssd_script.specs.declared.replies.Reply.TheVariants.{Done, Bytes, Fault}
 use Rattle.rssd_core.specs.SectorArray.{without_zeros}
-use Rattle.rssd_core.specs.DeviceValue.{Numbers, DeviceView, DeviceValue, rows_of, with_die}
-use Rattle.rssd_core.specs.Failures.{Lowers, TellsPower}
+use Rattle.rssd_core.specs.DeviceValue.{Numbers, DeviceValue, rows_of, with_die}
+use Rattle.rssd_core.specs.Failures.{TellsPower}
 use Rattle.rssd_core.specs.Within.{Went, sector_reads}
 use Rattle.rssd_core.specs.Outcomes.{TrueWhileRunning}
-use Rattle.rssd_run.specs.ArrayWithCuts.{On, Off}
-use Rattle.rssd_run.specs.View.{View, Event, NoFailure}
-use Rattle.rssd_run.specs.Held.{Tallies, plus, on, off, Calm}
+use Rattle.rssd_run.specs.ArrayWithCuts.{On}
+use Rattle.rssd_run.specs.View.{Event, NoFailure}
+use Rattle.rssd_run.specs.Held.{Tallies, plus, on}
 use Rattle.rssd_run.specs.Armed.{form_of_word}
 use Rattle.rssd_run.specs.Step.{IsStep}
 use Rattle.rssd_run.proofs.Came.{went_lowers, none_came, AReadCame, read_came, read_rose, passed_went}

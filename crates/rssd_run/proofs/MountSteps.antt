@@ -1,31 +1,27 @@
 -- Mounts.
-use Rattle.std.proofs.Common.{◌≡◌, ◌≢◌, ◌⊎◌, inl, inr, ℕ, ◌^◌, ◌+◌, ◌-◌, ◌≤◌, ◌<◌, List, [], false, None, Some, refl, arith, sym, ap, ◌∙◌}
+use Rattle.std.proofs.Common.{◌≡◌, ◌≢◌, inl, inr, ℕ, ◌^◌, ◌<◌, List, refl, arith, sym, ap, ◌∙◌}
 use Rattle.cell_die.specs.DieState.{DieState}
 use Rattle.cell_die.specs.Changes.{SameCells}
 use Rattle.cell_die.specs.Calls.{Passed, ReadFailed}
-use Rattle.cell_die.specs.Counts.{Rose}
 use Rattle.cell_die.specs.Power.{told, with_power}
 use Rattle.page_codec.specs.Geometry.{page_count, shape_of}
-use Rattle.page_codec.specs.Sound.{live_count}
-use Rattle.rssd_script.specs.declared.lines.Line.{Line}
 use Rattle.rssd_script.specs.declared.lines.Line.TheVariants.{Mount}
 use Rattle.rssd_script.specs.declared.replies.Reply.TheVariants.{Done, Fault, NoSpare, NoMemory, Off as SaysOff, Range, Long, Spent}
 use Rattle.rssd_core.specs.DeviceValue.{Numbers, DeviceView, DeviceValue, rows_of}
-use Rattle.rssd_core.specs.Failures.{Lowers, Tells, TellsPower, CutCame, ReadFailureCame, cut_of, form_of, read_failure_of}
+use Rattle.rssd_core.specs.Failures.{Lowers, Tells, TellsPower, cut_of, form_of, read_failure_of}
 use Rattle.rssd_core.specs.Within.{Went}
 use Rattle.cell_die.specs.declared.shape.Shape.{Shape}
 use Rattle.striped.specs.Meaning.{Meaning}
 use Rattle.rssd_core.specs.declared.device.Plan.{Plan}
-use Rattle.rssd_core.specs.Mount.{numbers_of, Fits, IsMountedView, EveryBlockLive, Mounts, MountFails, NoSpareFound, Refuses}
+use Rattle.rssd_core.specs.Mount.{numbers_of, Fits, IsMountedView, EveryBlockLive, Mounts, Refuses}
 use Rattle.rssd_core.specs.declared.device.MountError.{MountError}
 use Rattle.rssd_core.specs.declared.device.MountError.TheVariants.{OutOfMemory, Shape as BadShape, DieFault, NoSpare as NoSpareError}
-use Rattle.rssd_run.specs.Steps.{IsKept, MountDone, MountRefused, refusal_reply}
-use Rattle.rssd_core.specs.Outcomes.{TrueWhileRunning}
+use Rattle.rssd_run.specs.Steps.{MountDone, MountRefused}
 use Rattle.rssd_run.specs.ArrayWithCuts.{ArrayState, On, Off, Row}
-use Rattle.rssd_run.specs.View.{View, Event, NoFailure, StandsFor, IsArrayOf, IsOn, IsOff, faults}
+use Rattle.rssd_run.specs.View.{View, Event, NoFailure, StandsFor, IsArrayOf, IsOn}
 use Rattle.rssd_run.specs.Held.{Tallies, plus, on, tallies_of, after_refusal, refused}
 use Rattle.rssd_run.specs.Step.{IsStep, RefusedExactly, OutOfRange, TooLong, NumbersSpent, AlwaysAnswered}
-use Rattle.rssd_run.proofs.Came.{power_tells, went_power, went_lowers, none_came, AReadCame, read_came, read_rose, passed_went, HasPower}
+use Rattle.rssd_run.proofs.Came.{power_tells, went_power, went_lowers, none_came, AReadCame, read_came, read_rose, passed_went}
 use Rattle.rssd_run.proofs.Parts.{no_fault}
 use Rattle.rssd_run.proofs.Still.{keeps_cells, same_book, same_seq, lowers_none, lowers_powered, power_given, cut_powered, form_powered, read_powered}
 use Rattle.rssd_run.proofs.WriteSteps.{event_of}

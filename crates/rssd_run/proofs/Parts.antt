@@ -1,21 +1,15 @@
 -- The parts of a step that many lines share.
-use Rattle.std.proofs.Common.{◌≡◌, ◌≢◌, ◌⊎◌, inl, inr, ℕ, ◌+◌, ◌-◌, ◌≤◌, ◌<◌, List, refl, arith, sym, ◌∙◌}
-use Rattle.cell_die.specs.Counts.{Rose, count_sum}
-use Rattle.cell_die.specs.DieState.{DieState}
-use Rattle.cell_die.specs.Changes.{SameCells}
+use Rattle.std.proofs.Common.{◌≢◌, inl, ℕ, List, arith}
 use Rattle.cell_die.proofs.Sequences.{never_falls_refl}
-use Rattle.rssd_script.specs.declared.lines.Line.{Line}
-use Rattle.rssd_script.specs.declared.replies.Reply.{Reply}
-use Rattle.rssd_script.specs.declared.replies.Reply.TheVariants.{First, Second, Declined, Range, Long, Off as SaysOff, Fault, Spent, NoSpare, NoMemory}
+use Rattle.rssd_script.specs.declared.replies.Reply.TheVariants.{Range, Long, Off as SaysOff, Fault, Spent}
 use Rattle.rssd_core.specs.BookChanges.{Change}
-use Rattle.rssd_core.specs.DeviceValue.{Numbers, DeviceView, DeviceValue, rows_of}
+use Rattle.rssd_core.specs.DeviceValue.{Numbers, DeviceView, DeviceValue}
 use Rattle.rssd_core.specs.Moves.{MovesBook, MovesSeq}
-use Rattle.rssd_core.specs.Outcomes.{Holds, CountsOne, SameCounts, firsts, seconds, declines}
-use Rattle.rssd_core.specs.declared.device.Placed.{Placed}
+use Rattle.rssd_core.specs.Outcomes.{Holds}
 use Rattle.rssd_run.specs.ArrayWithCuts.{ArrayState, On, Off}
-use Rattle.rssd_run.specs.View.{View, Event, IsOn, IsOff, ACut, AReadFailure, NoFailure, faults}
+use Rattle.rssd_run.specs.View.{Event, IsOn, IsOff, NoFailure}
 use Rattle.rssd_run.specs.Held.{Tallies, plus}
-use Rattle.rssd_run.specs.Step.{KeepsDie, RefusedExactly, FaultExactly, OutOfRange, TooLong, NumbersSpent, AlwaysAnswered, TalliesRise}
+use Rattle.rssd_run.specs.Step.{KeepsDie, RefusedExactly, FaultExactly, OutOfRange, TooLong, NumbersSpent}
 
 pub not_both : (array : ArrayState) → IsOn array → IsOff array → ⊥
 not_both (On rows) on off = off

@@ -1,21 +1,20 @@
 -- Runs grow by one step at their end, and stay calm.
-use Rattle.std.proofs.Common.{◌≡◌, ◌⊎◌, inl, inr, ℕ, ◌+◌, ◌-◌, ◌≤◌, ◌<◌, Bool, true, false, List, [], ◌∷◌, ◌++◌, All, length, take, Option, None, Some, suc, refl, arith, sym, ap, ◌∙◌, append_assoc}
-use Rattle.std.specs.List.{flat_map}
+use Rattle.std.proofs.Common.{◌≡◌, ◌⊎◌, inl, inr, ℕ, ◌+◌, false, List, [], ◌∷◌, ◌++◌, All, length, take, Option, None, Some, suc, refl, arith, sym, ap, ◌∙◌, append_assoc}
 use Rattle.std.specs.Io.KnownBytes.{Appends}
 use Rattle.std.proofs.lemmas.List.{append-nil}
 use Rattle.rssd_io.proofs.Appending.{appends_more, appends_none}
 use Rattle.cell_die.specs.DieState.{DieState, Failures}
-use Rattle.cell_die.specs.Power.{told, with_read_failure}
+use Rattle.cell_die.specs.Power.{with_read_failure}
 use Rattle.std.specs.Option.{option_map}
 use Rattle.rssd_core.specs.DeviceValue.{Numbers}
-use Rattle.rssd_core.specs.Failures.{Lowers, LowerWithin, CutCame, ReadFailureCame, cut_of, cut_in}
+use Rattle.rssd_core.specs.Failures.{cut_of, cut_in}
 use Rattle.rssd_script.specs.declared.lines.Line.{Line}
 use Rattle.rssd_script.specs.declared.lines.Line.TheVariants.{Write, Read, Trim, Idle, Cut, FailRead, Mount, Stat}
 use Rattle.rssd_script.specs.declared.replies.Reply.{Reply}
 use Rattle.rssd_script.specs.declared.replies.Reply.TheVariants.{Done, Fault}
 use Rattle.rssd_script.specs.Replies.{reply_line}
 use Rattle.rssd_run.specs.View.{View, Event}
-use Rattle.rssd_run.specs.Armed.{IsArming, ArmedExactly, FaultWithin}
+use Rattle.rssd_run.specs.Armed.{IsArming}
 use Rattle.rssd_run.specs.Step.{IsStep}
 use Rattle.rssd_run.specs.Held.{Calm}
 use Rattle.rssd_run.specs.Run.{IsRun, lines_of, output_of, RunOf, RunCutOff, is_cut, CalmFor}

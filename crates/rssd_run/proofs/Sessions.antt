@@ -1,39 +1,36 @@
 -- Steps of a device are steps of the session that has it.
-use Rattle.std.proofs.Common.{◌≡◌, ◌⊎◌, inl, inr, ℕ, ◌+◌, ◌-◌, ◌≤◌, ◌<◌, ◌^◌, Bool, true, false, List, Option, None, Some, refl, arith, sym, ap, ◌∙◌, subst}
+use Rattle.std.proofs.Common.{◌≡◌, ℕ, Bool, true, false, List, Option, None, Some, refl, arith, sym, ap, subst}
 use Rattle.std.proofs.lemmas.Option.{none-some}
 use Rattle.cell_die.specs.DieState.{DieState}
-use Rattle.page_codec.specs.Geometry.{shape_of}
 use Rattle.rssd_script.specs.declared.lines.Line.{Line}
 use Rattle.rssd_script.specs.declared.lines.Line.TheVariants.{Mount, Stat}
 use Rattle.rssd_script.specs.declared.replies.Reply.{Reply}
 use Rattle.rssd_script.specs.declared.replies.Reply.TheVariants.{Done, Off as SaysOff}
 use Rattle.striped.specs.Meaning.{Meaning}
 use Rattle.rssd_core.specs.declared.device.Plan.{Plan}
-use Rattle.rssd_core.specs.Failures.{Tells}
-use Rattle.rssd_core.specs.Mount.{numbers_of}
 use Rattle.rssd_core.specs.DeviceValue.{Numbers, DeviceView, DeviceValue, rows_of}
 use Rattle.rssd_core.specs.declared.device.MountError.{MountError}
 use Rattle.rssd_run.specs.ArrayWithCuts.{ArrayState, On, Off}
 use Rattle.rssd_run.specs.View.{View, IsArrayOf, IsOn, IsOff, StandsFor}
 use Rattle.rssd_run.specs.Held.{Tallies, plus, tallies_of, on, off, refused, after_refusal}
-use Rattle.rssd_run.specs.Step.{IsStep, AlwaysAnswered, TrueWhileOn}
+use Rattle.rssd_run.specs.Step.{AlwaysAnswered, TrueWhileOn}
 use Rattle.rssd_run.specs.Steps.{ArrayIs, IsKept, Steps, MountDone, MountRefused, refusal_reply}
-use Rattle.rssd_run.specs.Shows.{Holding, Mounted, Closed, Nothing, HasNumbers, AreSmall, SessionValue, Shows, ShowsHolding, StepsSession, IsPlanned, IsHeld, SaysStat, holding_of, stat_of}
+use Rattle.rssd_run.specs.Shows.{Holding, Mounted, Closed, Nothing, HasNumbers, AreSmall, SessionValue, Shows, ShowsHolding, StepsSession, IsHeld, SaysStat, holding_of}
 use Rattle.rssd_run.proofs.Refused.{IsSmall, off_step, stat_step}
 
 array_stands : (stopped : Bool) (rows : List (List ℕ)) (array : ArrayState) → ArrayIs stopped rows array → IsArrayOf rows array
 array_stands false rows array is = rw is refl
 array_stands true rows array is = is.1
 
-runs_array : (stopped : Bool) → stopped ≡ false → (rows : List (List ℕ)) (array : ArrayState) → ArrayIs stopped rows array → array ≡ On rows
+pub runs_array : (stopped : Bool) → stopped ≡ false → (rows : List (List ℕ)) (array : ArrayState) → ArrayIs stopped rows array → array ≡ On rows
 runs_array false e rows array is = is
 runs_array true e rows array is = cc
 
-stops_array : (stopped : Bool) → stopped ≡ true → (rows : List (List ℕ)) (array : ArrayState) → ArrayIs stopped rows array → IsOff array
+pub stops_array : (stopped : Bool) → stopped ≡ true → (rows : List (List ℕ)) (array : ArrayState) → ArrayIs stopped rows array → IsOff array
 stops_array false e rows array is = cc
 stops_array true e rows array is = is.0
 
-shows_stands : (d : Numbers) (base : Tallies) (holding : Holding) (view : View) → ShowsHolding d base holding view → StandsFor d view
+pub shows_stands : (d : Numbers) (base : Tallies) (holding : Holding) (view : View) → ShowsHolding d base holding view → StandsFor d view
 shows_stands d base (Mounted device) view shows = rw shows.0 (array_stands device.stopped (rows_of d device.view) view.array shows.1)
 shows_stands d base (Closed numbers die) view shows = shows.3
 shows_stands d base Nothing view shows = absurd shows
@@ -46,7 +43,7 @@ small_view view base is small = record {
   moved = omega (arith, ap (λ t. t.moved) is, small.moved);
 }
 
-small_plus : (base : Tallies) (view : DeviceView) → IsSmall (plus base view)
+pub small_plus : (base : Tallies) (view : DeviceView) → IsSmall (plus base view)
 small_plus base view = record { first = omega arith; second = omega arith; declined = omega arith; moved = omega arith }
 
 shows_small : (d : Numbers) (base : Tallies) (holding : Holding) (view : View) → AreSmall base → ShowsHolding d base holding view → IsSmall view.device

@@ -1,9 +1,7 @@
 -- Lines on a device that runs: what its calls leave are steps for every view that it stands for.
-use Rattle.std.proofs.Common.{◌≡◌, ◌≢◌, ◌⊎◌, inl, inr, ℕ, ◌^◌, ◌+◌, ◌-◌, ◌≤◌, ◌<◌, List, [], Option, IsSomeAnd, slice_set, Bool, true, false, length, None, Some, refl, arith, sym, ap, ◌∙◌, slice_index_or}
-use Rattle.cell_die.specs.declared.shape.Torn.{Torn}
+use Rattle.std.proofs.Common.{◌≡◌, ◌⊎◌, inl, inr, ℕ, ◌≤◌, ◌<◌, List, [], Option, IsSomeAnd, Bool, true, false, length, None, Some, refl, sym, ap, ◌∙◌, slice_index_or}
 use Rattle.cell_die.specs.DieState.{DieState, Failures}
-use Rattle.cell_die.specs.Changes.{SameCells}
-use Rattle.cell_die.specs.Calls.{Kept, WhilePowered, ChangeFailed, CutCame as Cut, Passed, ReadFailed}
+use Rattle.cell_die.specs.Calls.{ChangeFailed, CutCame as Cut, Passed, ReadFailed}
 use Rattle.cell_die.specs.Power.{told, with_cut, with_read_failure}
 use Rattle.rssd_script.specs.declared.lines.Line.{Line}
 use Rattle.rssd_script.specs.declared.lines.Line.TheVariants.{Write, Read, Trim, Idle, Cut as CutLine, FailRead}
@@ -13,31 +11,30 @@ use Rattle.rssd_script.specs.declared.lines.TornWord.{TornWord}
 use Rattle.rssd_core.specs.declared.device.Placed.{Placed}
 use Rattle.rssd_core.specs.declared.device.Placed.TheVariants.{First as PutFirst, Second as PutSecond, Declined as PutDeclined}
 use Rattle.rssd_core.specs.SectorArray.{filled_up, written, trimmed, without_zeros}
-use Rattle.rssd_core.specs.DeviceValue.{Numbers, DeviceView, DeviceValue, rows_of, with_die}
-use Rattle.rssd_core.specs.Failures.{Tells, TellsPower, Lowers}
+use Rattle.rssd_core.specs.DeviceValue.{Numbers, DeviceValue, rows_of, with_die}
+use Rattle.rssd_core.specs.Failures.{Tells, TellsPower}
 use Rattle.rssd_core.specs.Within.{Went, WithinWrite, WithinTrim, WithinIdle, sector_reads}
 use Rattle.rssd_core.specs.Outcomes.{Holds, Wrote, WriteFault, Trimmed, TrimFault, Idled, IdleFault, OnlyDie, Faulted, ReadFault, ChangeFault, TrueWhileRunning}
-use Rattle.rssd_run.specs.ArrayWithCuts.{ArrayState, On, Off, Row}
-use Rattle.rssd_run.specs.View.{View}
-use Rattle.rssd_run.specs.Held.{Tallies, plus, on, off, Calm, reply_of}
+use Rattle.rssd_run.specs.ArrayWithCuts.{On, Off}
+use Rattle.rssd_run.specs.Held.{Tallies, on, off, Calm, reply_of}
 use Rattle.std.specs.Option.{option_map}
 use Rattle.rssd_run.proofs.LineSteps.{cut_step, fail_read_step, read_step, read_fault_step}
 use Rattle.rssd_run.proofs.CommandSteps.{bounded, trimmed_step, trim_read_fault, trim_change_fault, idled_step, idle_read_fault, idle_change_fault}
 use Rattle.rssd_run.specs.Armed.{form_of_word}
 use Rattle.rssd_run.specs.Step.{IsStep}
 use Rattle.rssd_run.specs.Steps.{IsKept, Steps, ArrayIs}
-use Rattle.rssd_run.proofs.Came.{power_tells, went_lowers, none_came, went_power, AReadCame, read_came, ACutCame, change_came, powered_case, HasPower, passed_went}
+use Rattle.rssd_run.proofs.Came.{power_tells, went_power, AReadCame, read_came, powered_case, HasPower, passed_went}
 use Rattle.rssd_run.proofs.WriteSteps.{event_of, Tried, wrote_first, wrote_second, wrote_declined, write_read_fault, write_change_fault}
 
 pub change_tells : {changes reads : ℕ} (old new : DieState) → TellsPower old → ChangeFailed changes reads old new → Tells new
 change_tells {changes} {reads} old new power failed =
     powered_case (Cut changes reads) (λ x y. IsSomeAnd y (λ f. Unit {0})) (λ a b c. tt) old.failures new.failures power failed.failures
 
-array_runs : (stopped : Bool) → stopped ≡ false → (rows : List (List ℕ)) → ArrayIs stopped rows (On rows)
+pub array_runs : (stopped : Bool) → stopped ≡ false → (rows : List (List ℕ)) → ArrayIs stopped rows (On rows)
 array_runs true e rows = cc
 array_runs false e rows = refl
 
-array_stops : (stopped : Bool) → stopped ≡ true → (rows a b : List (List ℕ)) → (rows ≡ a) ⊎ (rows ≡ b) → ArrayIs stopped rows (Off a b)
+pub array_stops : (stopped : Bool) → stopped ≡ true → (rows a b : List (List ℕ)) → (rows ≡ a) ⊎ (rows ≡ b) → ArrayIs stopped rows (Off a b)
 array_stops true e rows a b one = (tt, one)
 array_stops false e rows a b one = cc
 

@@ -1,14 +1,14 @@
 -- What moves nothing but the die's counts and armed failures.
-use Rattle.std.proofs.Common.{◌≡◌, ◌≢◌, ◌⊎◌, inl, inr, ℕ, ◌^◌, ◌+◌, ◌-◌, ◌≤◌, ◌<◌, List, [], Option, None, Some, true, IsSomeAnd, refl, arith, sym, ap, ◌∙◌}
+use Rattle.std.proofs.Common.{◌≡◌, ◌⊎◌, inl, inr, ℕ, ◌^◌, ◌≤◌, ◌<◌, List, [], Option, None, Some, true, IsSomeAnd, refl, arith, sym, ◌∙◌}
 use Rattle.std.specs.Option.{option_map}
 use Rattle.cell_die.specs.declared.shape.Torn.{Torn}
-use Rattle.cell_die.specs.DieState.{DieState, Failures, page_of, block_of, erases_of}
-use Rattle.cell_die.specs.Changes.{SameCells, NeverFalls}
+use Rattle.cell_die.specs.DieState.{DieState, Failures}
+use Rattle.cell_die.specs.Changes.{SameCells}
 use Rattle.cell_die.specs.Power.{told, with_cut, with_read_failure, with_power}
 use Rattle.cell_die.proofs.Single.{same_cells_never_fall}
 use Rattle.rssd_core.specs.BookChanges.{Change, Leads}
-use Rattle.rssd_core.specs.DeviceValue.{Numbers, DeviceView, DeviceValue, rows_of}
-use Rattle.rssd_core.specs.Failures.{cut_in, form_in, read_in, cut_of, form_of, read_failure_of, CutCame, ReadFailureCame, Lower, LowerWithin, Lowers, Tells, TellsPower}
+use Rattle.rssd_core.specs.DeviceValue.{Numbers, DeviceView}
+use Rattle.rssd_core.specs.Failures.{cut_in, form_in, read_in, cut_of, form_of, read_failure_of, Lowers, Tells, TellsPower}
 use Rattle.rssd_core.specs.Moves.{MovesBook, MovesSeq}
 use Rattle.rssd_run.specs.Step.{KeepsDie}
 

@@ -1,28 +1,24 @@
 -- Writes: what a device's call leaves makes a step.
-use Rattle.std.proofs.Common.{◌≡◌, ◌≢◌, ◌⊎◌, inl, inr, ℕ, ◌^◌, ◌+◌, ◌-◌, ◌≤◌, ◌<◌, List, [], length, Option, None, Some, refl, arith, sym, ap, ◌∙◌, slice_set}
+use Rattle.std.proofs.Common.{◌≡◌, ◌⊎◌, inl, inr, ℕ, ◌^◌, ◌≤◌, ◌<◌, List, [], length, Option, None, Some, refl, arith, sym, ap, ◌∙◌}
 use Rattle.std.proofs.lemmas.Option.{none-some}
-use Rattle.cell_die.specs.Counts.{Rose, count_sum}
 use Rattle.reuse_pool.specs.declared.unit.ReuseUnit.{ReuseUnit}
-use Rattle.rssd_core.specs.Rules.{offer_of}
 use Rattle.rssd_script.specs.declared.lines.Line.{Line}
 use Rattle.rssd_script.specs.declared.lines.Line.TheVariants.{Write}
 use Rattle.rssd_script.specs.declared.replies.Reply.{Reply}
 use Rattle.rssd_script.specs.declared.replies.Reply.TheVariants.{First, Second, Declined, Fault}
-use Rattle.rssd_core.specs.declared.device.Placed.{Placed}
 use Rattle.rssd_core.specs.declared.device.Placed.TheVariants.{First as PutFirst, Second as PutSecond, Declined as PutDeclined}
 use Rattle.rssd_core.specs.SectorArray.{filled_up, written}
 use Rattle.page_codec.specs.Sound.{IsSound}
 use Rattle.rssd_core.specs.DeviceValue.{Numbers, DeviceView, DeviceValue, rows_of}
-use Rattle.rssd_core.specs.Failures.{Lowers, TellsPower}
+use Rattle.rssd_core.specs.Failures.{TellsPower}
 use Rattle.rssd_core.specs.Within.{WithinWrite}
-use Rattle.rssd_core.specs.Writes.{OfferCarries, OfferDeclines, OverUnit, OnCleanPage}
-use Rattle.rssd_core.specs.Outcomes.{Holds, Wrote, WriteFault, ReadFault, ChangeFault, CountsOne, SameCounts}
+use Rattle.rssd_core.specs.Writes.{OfferCarries, OfferDeclines, OverUnit}
+use Rattle.rssd_core.specs.Outcomes.{Holds, Wrote, WriteFault, ReadFault, ChangeFault}
 use Rattle.rssd_run.specs.ArrayWithCuts.{On, Off}
 use Rattle.rssd_run.specs.View.{View, Event, NoFailure, ACut, AReadFailure}
 use Rattle.rssd_run.specs.Held.{Tallies, plus, on, off, Calm}
 use Rattle.rssd_run.specs.Placing.{IsTried, PlacedExactly}
-use Rattle.rssd_run.specs.Armed.{ArmedExactly, FaultWithin}
-use Rattle.rssd_run.specs.Step.{IsStep, AnswersExactly, RefusedExactly, FaultExactly, TalliesRise}
+use Rattle.rssd_run.specs.Step.{IsStep}
 use Rattle.rssd_run.proofs.Came.{went_lowers, none_came, ACutCame, change_came, AReadCame, read_came, change_rose, read_rose}
 use Rattle.rssd_run.proofs.Parts.{not_refused, no_fault, keeps, plus_book, plus_seq}
 
@@ -61,15 +57,15 @@ unit_in other None = other
 unit_in other (Some unit) = unit
 
 -- the one offered unit cannot both carry the sector and not carry it
-offered_both : (d : Numbers) (view : DeviceView) (row : List ℕ) → OfferCarries d view row → OfferDeclines d view row → ⊥
+pub offered_both : (d : Numbers) (view : DeviceView) (row : List ℕ) → OfferCarries d view row → OfferDeclines d view row → ⊥
 offered_both d view row carries declines =
     let same : carries.0 ≡ declines.0 = ap (unit_in carries.0) (sym carries.1 ∙ declines.1) in
     declines.2 (rw (sym same) carries.2)
 
-over_plus : (d : Numbers) (base : Tallies) (old new : DeviceView) (sector : ℕ) (unit : ReuseUnit) → OverUnit d old new sector unit → OverUnit d (plus base old) (plus base new) sector unit
+pub over_plus : (d : Numbers) (base : Tallies) (old new : DeviceView) (sector : ℕ) (unit : ReuseUnit) → OverUnit d old new sector unit → OverUnit d (plus base old) (plus base new) sector unit
 over_plus d base old new sector unit over = record { live = over.live; above = over.above }
 
-neither : {A B C : Type 0} → (A → ⊥) → (B → ⊥) → A ⊎ B → C
+pub neither : {A B C : Type 0} → (A → ⊥) → (B → ⊥) → A ⊎ B → C
 neither f g (inl a) = absurd (f a)
 neither f g (inr b) = absurd (g b)
 

@@ -1,5 +1,5 @@
 -- Armed failures: a cut and a read failure come at the call that their line named.
-use Rattle.std.specs.Prelude.{◌≡◌, ◌⊎◌, ℕ, ◌+◌, ◌*◌, ◌<◌, ◌≤◌}
+use Rattle.std.specs.Prelude.{◌≡◌, ℕ, ◌*◌, ◌<◌, ◌≤◌}
 use Rattle.cell_die.specs.declared.shape.Torn.{Torn}
 use Rattle.cell_die.specs.declared.shape.Torn.TheVariants.{Nothing, All, Mask}
 use Rattle.cell_die.specs.Power.{told, with_cut, with_read_failure}

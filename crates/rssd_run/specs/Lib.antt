@@ -15,3 +15,4 @@ pub mod Run
 pub mod Held
 pub mod Steps
 pub mod Shows
+pub mod Played

@@ -7,12 +7,12 @@ use Rattle.rssd_script.specs.declared.replies.Reply.TheVariants.{First, Second, 
 use Rattle.rssd_core.specs.declared.device.Placed.TheVariants.{First as PutFirst, Second as PutSecond, Declined as PutDeclined}
 use Rattle.rssd_core.specs.SectorArray.{filled_up}
 use Rattle.rssd_core.specs.BookChanges.{Change}
-use Rattle.rssd_core.specs.DeviceValue.{Numbers, DeviceView}
+use Rattle.rssd_core.specs.DeviceValue.{Numbers}
 use Rattle.rssd_core.specs.Moves.{MovesBook, MovesSeq, IdleMoves, CollectAtCut}
 use Rattle.rssd_core.specs.Outcomes.{WriteMay, WriteFaultMay, TrimMay, IdleMay, RisesSealed, RisesTo, RisesFinished, WriteAtCut, IdleAtCut}
 use Rattle.rssd_core.specs.Mount.{IsMountedView}
 use Rattle.rssd_core.specs.Failures.{cut_of}
-use Rattle.rssd_run.specs.View.{Event, View, ACut}
+use Rattle.rssd_run.specs.View.{Event, ACut}
 
 -- which changes a line may make of the book, by its reply
 abbrev pub MayChange : Line → Reply → List Change → Type 0

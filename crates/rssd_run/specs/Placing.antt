@@ -2,7 +2,6 @@
 use Rattle.std.specs.Prelude.{◌≡◌, ◌⊎◌, ◌↔◌, ℕ, ◌^◌, ◌<◌, ◌≤◌, List, length, Some, None}
 use Rattle.reuse_pool.specs.declared.unit.ReuseUnit.{ReuseUnit}
 use Rattle.rssd_core.specs.Rules.{offer_of}
-use Rattle.rssd_core.specs.SectorArray.{filled_up}
 use Rattle.rssd_core.specs.DeviceValue.{Numbers}
 use Rattle.rssd_core.specs.Writes.{OfferCarries, OfferDeclines, OverUnit, OnCleanPage}
 use Rattle.rssd_script.specs.declared.lines.Line.TheVariants.{Write}

@@ -1,5 +1,5 @@
 -- Which views a session stands for.
-use Rattle.std.specs.Prelude.{◌≡◌, ℕ, ◌<◌, ◌≤◌, ◌^◌, List, Option, None, Some}
+use Rattle.std.specs.Prelude.{◌≡◌, ◌<◌, ◌≤◌, ◌^◌, Option, None, Some}
 use Rattle.std.specs.Option.{option_map}
 use Rattle.cell_die.specs.DieState.{DieState}
 use Rattle.page_codec.specs.Geometry.{shape_of}
@@ -13,7 +13,7 @@ use Rattle.rssd_script.specs.declared.lines.Line.{Line}
 use Rattle.rssd_script.specs.declared.lines.Line.TheVariants.{Cut, FailRead, Mount, Stat}
 use Rattle.rssd_script.specs.declared.replies.Reply.{Reply}
 use Rattle.rssd_script.specs.declared.replies.Reply.TheVariants.{Stat as Counted}
-use Rattle.rssd_run.specs.View.{View, Event, IsOff, StandsFor, erased}
+use Rattle.rssd_run.specs.View.{View, IsOff, StandsFor, erased}
 use Rattle.rssd_run.specs.Held.{Tallies, plus, tallies_of, Calm}
 use Rattle.rssd_run.specs.Steps.{ArrayIs, IsKept}
 use Rattle.rssd_run.specs.Step.{IsStep}

@@ -1,5 +1,5 @@
 -- One line of a session: what may be answered, and what then holds.
-use Rattle.std.specs.Prelude.{◌≡◌, ◌⊎◌, ◌↔◌, ℕ, ◌^◌, ◌<◌, ◌≤◌, List, length, Option, Some, None}
+use Rattle.std.specs.Prelude.{◌≡◌, ◌⊎◌, ◌↔◌, ℕ, ◌^◌, ◌<◌, ◌≤◌, List, length}
 use Rattle.cell_die.specs.Counts.{count_sum, Rose}
 use Rattle.cell_die.specs.Changes.{NeverFalls, SameCells}
 use Rattle.cell_die.specs.Pads.{NoPadCharged}

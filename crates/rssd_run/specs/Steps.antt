@@ -1,8 +1,8 @@
 -- What a line on a running device makes of it, for every view that it stands for.
-use Rattle.std.specs.Prelude.{◌≡◌, ℕ, ◌≤◌, ◌<◌, ◌^◌, Bool, true, false, List}
+use Rattle.std.specs.Prelude.{◌≡◌, ℕ, ◌<◌, ◌^◌, Bool, true, false, List}
 use Rattle.rssd_script.specs.declared.lines.Line.{Line}
 use Rattle.rssd_script.specs.declared.replies.Reply.{Reply}
-use Rattle.rssd_core.specs.DeviceValue.{Numbers, DeviceView, DeviceValue, rows_of}
+use Rattle.rssd_core.specs.DeviceValue.{Numbers, DeviceValue, rows_of}
 use Rattle.rssd_core.specs.Failures.{Tells, TellsPower}
 use Rattle.rssd_core.specs.Outcomes.{TrueWhileRunning}
 use Rattle.rssd_run.specs.ArrayWithCuts.{ArrayState, On}

@@ -1,17 +1,17 @@
 //! A session: a device on a die whose power may be cut, and the lines that are run on it. It is on while the device runs, and off
 //! after a failed change call or a mount that was refused, until a mount. From each view that it stands for, a line with its
 //! reply is a step to one that it stands for afterwards. Only the line `mount` takes memory.
-ghost use Rattle.std.specs.Prelude.{◌≡◌, None, Some, IsSome, IfSome, IfNone, IfOk, IfErr};
+ghost use Rattle.std.specs.Prelude.{◌≡◌, None, Some, IsSome, IfSome, IfNone, IfOk, IfErr, ◌↔◌, OnOk};
 ghost use Rattle.rssd_core.specs.DeviceValue.{Numbers};
 ghost use Rattle.rssd_core.specs.Failures.{TellsPower};
-ghost use Rattle.rssd_core.specs.Mount.{numbers_of, Refuses};
+ghost use Rattle.rssd_core.specs.Mount.{numbers_of, Fits, Refuses};
 ghost use Rattle.rssd_run.specs.Held.{added_tallies, tallies_of};
 ghost use Rattle.rssd_run.specs.Shows.{CanStep, IsDeviceLine, HasNumbers, HasDie, StepsSession, Starts, session_of, tallies};
 
 use crate::run::Stepping;
 use crate::run::line::{answer_line, mount_again, refusal_reply};
 use cell_die::PowerDie;
-use rssd_core::device::{Counts, Plan, PowerDevice, Refused};
+use rssd_core::device::{Counts, MountError, Plan, PowerDevice, Refused};
 use rssd_script::{Line, Reply};
 use std::alloc::Global;
 use std::marker::Model;
@@ -91,7 +91,10 @@ impl<D: PowerDie + Drop, C: Scheme + Drop, F: PowerDevice<D, C>> Session<D, C, F
     pub fn start(alloc: Global, die: D, scheme: C, plan: Plan) -> Result<Self, Refused<D, C>>
         requires { TellsPower (D.state die) }
         ensures started { IfOk result (λ new. Starts (numbers_of (D.state die).shape (C.meaning scheme) plan) (D.state die) (session_of D.state C.meaning F.device new)) }
+        ensures fits { OnOk result (Fits (D.state die).shape (C.meaning scheme) plan) }
+        ensures shape { IfErr result (λ refused. refused.why ≡ MountError.Shape ↔ (¬ Fits (D.state die).shape (C.meaning scheme) plan)) }
         ensures refused { IfErr result (λ refused. Refuses (numbers_of (D.state die).shape (C.meaning scheme) plan) (D.state die) (D.state refused.die) refused.why) }
+        ensures scheme { IfErr result (λ refused. C.meaning refused.scheme ≡ C.meaning scheme) }
     {
         match F::mount(alloc, die, scheme, plan) {
             Ok(ftl) => Ok(Session {

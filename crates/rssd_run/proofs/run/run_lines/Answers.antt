@@ -29,9 +29,12 @@ loop-line-preserved g c =
       numbers = λ d numbers. c.step-reply.ensures.numbers d (c.loop-line.invariant.numbers d numbers);
       runs = λ d numbers before shows calm.
           let so = c.loop-line.invariant.runs d numbers before shows calm in
-          let s = c.step-reply.ensures.step d (c.loop-line.invariant.numbers d numbers) so.0 so.1 (calm_now d so.0.device.die lines so.2) in
-          (s.0, s.1, calm_on d so.0 s.0 line reply lines s.2 among so.2,
-          rw more (run_of_more d before so.0 s.0 (take i lines) line reply (written c.args.out.now) (written c.loop-line.out) (written c.give.new.self) so.3 s.2 given));
+          let s = c.step-reply.ensures.step d (c.loop-line.invariant.numbers d numbers) so.0 so.1 (calm_now d so.0.device.die lines so.2) in (
+            s.0,
+            s.1,
+            calm_on d so.0 s.0 line reply lines s.2 among so.2,
+            rw more (run_of_more d before so.0 s.0 (take i lines) line reply (written c.args.out.now) (written c.loop-line.out) (written c.give.new.self) so.3 s.2 given),
+          );
       faults = c.in_ok-give.ensures.cause.kept ∙ c.loop-line.invariant.faults;
     }
 
@@ -55,7 +58,9 @@ returns-in_err-give-clause-err g c =
     let text : c.as_slice.result.now ≡ reply_line reply = c.as_slice.ensures ∙ c.print_reply.ensures in
     let given = rw text at c.in_err-give.ensures.err.1 in
     on_err c.from_residual.result _ (λ d numbers before shows calm.
-        let so = c.loop-line.invariant.runs d numbers before shows calm in
-        let s = c.step-reply.ensures.step d (c.loop-line.invariant.numbers d numbers) so.0 so.1 (calm_now d so.0.device.die lines so.2) in
-        (s.0, s.1,
-        run_cut_off d before so.0 s.0 (take i lines) line reply (written c.args.out.now) (written c.loop-line.out) (written c.give.new.self) so.3 s.2 lines front c.in_err-give.ensures.err.0 given))
+    let so = c.loop-line.invariant.runs d numbers before shows calm in
+    let s = c.step-reply.ensures.step d (c.loop-line.invariant.numbers d numbers) so.0 so.1 (calm_now d so.0.device.die lines so.2) in (
+      s.0,
+      s.1,
+      run_cut_off d before so.0 s.0 (take i lines) line reply (written c.args.out.now) (written c.loop-line.out) (written c.give.new.self) so.3 s.2 lines front c.in_err-give.ensures.err.0 given,
+    ))

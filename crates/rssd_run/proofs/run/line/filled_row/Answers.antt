@@ -1,5 +1,5 @@
 -- What the copy leaves of the zeros are as many as are missing.
-use Rattle.std.proofs.Common.{◌≡◌, ◌++◌, ◌-◌, length, replicate, drop, ap, ap₂, ◌∙◌, arith}
+use Rattle.std.proofs.Common.{◌≡◌, ◌++◌, ◌-◌, length, replicate, drop, ap₂}
 use Rattle.std.proofs.lemmas.List.{drop-replicate}
 use Rattle.rssd_run.proofs.run.line.filled_row.Goals as goal
 

@@ -1,4 +1,3 @@
-use Rattle.std.proofs.Common.{◌≡◌, refl, sym, ap, ◌∙◌}
 use Rattle.cell_die.specs.DieState.{DieState}
 use Rattle.rssd_core.specs.Mount.{numbers_of}
 use Rattle.rssd_run.proofs.MountSteps.{mounts_done, mount_refused, shape_is}

@@ -1,5 +1,5 @@
 -- A session whose device runs answers as the device does, and any other with `off`.
-use Rattle.std.proofs.Common.{◌≡◌, sym, ◌∙◌}
+use Rattle.std.proofs.Common.{sym, ◌∙◌}
 use Rattle.rssd_run.proofs.Fields.{no_device_off, stopped_off, device_answers}
 use Rattle.rssd_run.proofs.run.session.Session.answer.Goals as goal
 

@@ -1,5 +1,4 @@
 -- The die that was closed is mounted again, from each view that the session stood for.
-use Rattle.std.proofs.Common.{◌≡◌}
 use Rattle.rssd_run.proofs.Fields.{mount_done, mount_refused_so}
 use Rattle.rssd_run.proofs.run.session.Session.mount.Goals as goal
 

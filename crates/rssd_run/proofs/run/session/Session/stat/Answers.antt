@@ -1,6 +1,6 @@
 -- What is told are the tallies of each view.
 use Rattle.std.proofs.Common.{◌≡◌, ◌∙◌}
-use Rattle.rssd_run.specs.Held.{Tallies, added_tallies, tallies_of}
+use Rattle.rssd_run.specs.Held.{added_tallies, tallies_of}
 use Rattle.rssd_run.specs.Shows.{Parts, tallies}
 use Rattle.rssd_run.proofs.Fields.{stat_answers, stat_mounted, stat_closed}
 use Rattle.rssd_run.proofs.run.session.Session.stat.Goals as goal

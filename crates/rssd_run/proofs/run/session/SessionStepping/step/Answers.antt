@@ -1,4 +1,3 @@
-use Rattle.std.proofs.Common.{◌≡◌}
 use Rattle.rssd_run.proofs.run.session.SessionStepping.step.Goals as goal
 
 pub returns-in-Mount-clause-step : goal.returns-in-Mount-clause-step
