@@ -148,10 +148,13 @@ pub record OverReadFailed (g : Geometry) (old new : Store) : Type 0 where
   pub cells : SameCells old.die new.die
   pub failed : ReadFailed 0 g.span old.die new.die
 
--- A change call failed: the row is as before or set, and one seq was drawn.
-pub record OverChangeFailed (g : Geometry) (d : Decoding) (h : Header) (row : List ℕ) (old new : Store) : Type 0 where
+-- A change call failed: some cells above the unit's carry the sector, the row is as before or set, and one seq was drawn.
+pub record OverChangeFailed (g : Geometry) (d : Decoding) (unit : ReuseUnit) (h : Header) (row : List ℕ) (old new : Store) : Type 0 where
   pub same : new ≡ record old { die = new.die; seq = old.seq + 1 }
   pub rows : SameRows g d old new ⊎ SetsRow g d h.sector row old new
+  pub cells : List ℕ
+  pub above : IsAbove cells (bytes_in g old unit)
+  pub carries : d.second_carries cells row ≡ true
   pub failed : ChangeFailed (g.span + 1) g.span old.die new.die
 
 -- how a put over the offered unit ends
@@ -159,4 +162,4 @@ abbrev pub OverEnds : Geometry → Decoding → ReuseUnit → Header → List �
 OverEnds g d unit h row (Ok Carried) old new = PutOver g d unit h row old new
 OverEnds g d unit h row (Ok Declined) old new = OverDeclined g d unit row old new
 OverEnds g d unit h row (Err (faults.Read)) old new = OverReadFailed g old new
-OverEnds g d unit h row (Err (faults.Change)) old new = OverChangeFailed g d h row old new
+OverEnds g d unit h row (Err (faults.Change)) old new = OverChangeFailed g d unit h row old new
