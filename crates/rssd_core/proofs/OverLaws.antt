@@ -12,7 +12,7 @@ use Rattle.cell_die.specs.Cells.{page_at, IsAbove}
 use Rattle.cell_die.specs.DieState.{DieState, IsShaped, page_of}
 use Rattle.cell_die.specs.Changes.{SameCells}
 use Rattle.cell_die.specs.Calls.{Kept, Passed, ChangeFailed, ReadFailed}
-use Rattle.cell_bits.proofs.Above.{above_refl}
+use Rattle.cell_bits.proofs.Above.{above_refl, above_trans}
 use Rattle.cell_bits.proofs.Slices.{above_take}
 use Rattle.striped.specs.Meaning.{Meaning, Decoding, Decodes, IsSector, NoneCarries}
 use Rattle.spare_gate.specs.Slots.{is_gate_charged}
@@ -62,10 +62,10 @@ unit_carries g meaning place h sector old new p gated bytes spans =
     (λ i. meaning.decoding.second_carries (flat_map (λ q. take (sym bytes i) (p.whole gated q i)) (range_with_len place.page (sym spans i))) sector) ∙ p.content
 
 -- pages above pages make a unit above a unit
-pages_above : (g : Geometry) (new old : List (List ℕ)) (a n : ℕ) → ((page : ℕ) → IsAbove (page_at new page) (page_at old page)) → IsAbove (flat_map (main_at g new) (range_with_len a n)) (flat_map (main_at g old) (range_with_len a n))
-pages_above g new old a zero above = above_refl _
-pages_above g new old a (suc n) above = above_append (main_at g new a) (main_at g old a) (flat_map (main_at g new) (range_with_len (a + 1) n)) (flat_map (main_at g old) (range_with_len (a + 1) n))
-    (above_take g.main_bytes (page_at new a) (page_at old a) (above a)) (pages_above g new old (a + 1) n above)
+pages_above : (m : ℕ) (new old : ℕ → List ℕ) (a n : ℕ) → ((page : ℕ) → IsAbove (new page) (old page)) → IsAbove (flat_map (λ q. take m (new q)) (range_with_len a n)) (flat_map (λ q. take m (old q)) (range_with_len a n))
+pages_above m new old a zero above = above_refl _
+pages_above m new old a (suc n) above = above_append (take m (new a)) (take m (old a)) (flat_map (λ q. take m (new q)) (range_with_len (a + 1) n)) (flat_map (λ q. take m (old q)) (range_with_len (a + 1) n))
+    (above_take m (new a) (old a) (above a)) (pages_above m new old (a + 1) n above)
 
 -- the Spare has no live record, and is none of the Recycled blocks
 free_spare_over : (g : Geometry) (cells : List (List ℕ)) (book : BookValue) (table : List (Option Entry)) (seq : ℕ) (unit : ReuseUnit) → IsTrue g cells book table seq → IsOffer book unit
@@ -151,13 +151,16 @@ module _ (meaning : Meaning) (sizes : Sizes) (old : Store) (new : DieState) (uni
     rows_charged charged = rows_from_gate g unit h old.die.cells new.cells puts_over meaning.decoding bytes charged
         (second_says g meaning (place_in g unit) h bytes old.die new p' (gate_is charged) bytes_are refl decodes is refl (ne_eqb unit.slot 0 (λ e. omega (arith, offered.1.low))))
 
-    pub over_failed : ChangeFailed (meaning.span + 1) meaning.span old.die new → OverChangeFailed g meaning.decoding h bytes old (store new old.table old.book (old.seq + 1))
+    pub over_failed : ChangeFailed (meaning.span + 1) meaning.span old.die new → OverChangeFailed g meaning.decoding unit h bytes old (store new old.table old.book (old.seq + 1))
     over_failed failed = record {
       same = refl;
       rows = elim (cases_Bool (over_gate g unit new.cells)) [
         | inl charged ↦ inr (rows_charged charged)
         | inr open' ↦ inl (stored_before_gate g unit h old.die.cells new.cells puts_over meaning.decoding open')
       ];
+      cells = flat_map (λ q. take g.main_bytes (p'.done q)) (range_with_len (unit_page g unit.block unit.number) g.span);
+      above = pages_above g.main_bytes p'.done (page_at old.die.cells) (unit_page g unit.block unit.number) g.span (λ q. above_trans (p'.done q) (page_of new q) (page_of old.die q) (p'.below q) (p'.above q));
+      carries = (λ i. meaning.decoding.second_carries (flat_map (λ q. take (sym bytes_are i) (p'.done q)) (range_with_len (unit_page g unit.block unit.number) g.span)) bytes) ∙ p'.content;
       failed = failed;
     }
 
@@ -195,7 +198,7 @@ module _ (meaning : Meaning) (sizes : Sizes) (old : Store) (new : DieState) (uni
         live = (wins_from_gate g unit h old.die.cells new.cells puts_over charged).live;
         others = (wins_from_gate g unit h old.die.cells new.cells puts_over charged).others;
         rows = rows_charged charged;
-        above = pages_above g new.cells old.die.cells (unit_page g unit.block unit.number) g.span p'.above;
+        above = pages_above g.main_bytes (page_at new.cells) (page_at old.die.cells) (unit_page g unit.block unit.number) g.span p'.above;
         carries = unit_carries g meaning (place_in g unit) h bytes old.die new p' (gate_is charged) bytes_are refl;
         book = ap (λ (v : BookValue). passing v unit) effect_is;
         seq = refl;

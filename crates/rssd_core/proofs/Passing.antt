@@ -30,7 +30,7 @@ use Rattle.rssd_core.proofs.SecondWrite.{PutsOver, over_gate, none_committed, ma
 -- ---- the state after a pass
 
 -- a number at the last unit, and one before
-passed_cases : (v : BookValue) (unit : ReuseUnit) (P : State → Type 0) → P Reused → (unit.slot + 1 ≢ v.generations → P (Used unit.slot)) → (unit.number + 1 ≢ v.units → P (Recycled unit.slot (unit.number + 1))) → P (passed v unit)
+pub passed_cases : (v : BookValue) (unit : ReuseUnit) (P : State → Type 0) → P Reused → (unit.slot + 1 ≢ v.generations → P (Used unit.slot)) → (unit.number + 1 ≢ v.units → P (Recycled unit.slot (unit.number + 1))) → P (passed v unit)
 passed_cases v unit P reused used recycled = elim (cases_eq (unit.number + 1) v.units) [
   | inr more ↦ subst (λ (t : Bool). P (if t then (if unit.slot + 1 == v.generations then Reused else Used unit.slot) else Recycled unit.slot (unit.number + 1))) (sym (ne_eqb _ _ more)) (recycled more)
   | inl last ↦ subst (λ (t : Bool). P (if t then (if unit.slot + 1 == v.generations then Reused else Used unit.slot) else Recycled unit.slot (unit.number + 1))) (sym (eq-eqb _ _ last))

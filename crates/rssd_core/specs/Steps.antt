@@ -23,7 +23,7 @@ use Rattle.rssd_core.specs.BookChanges.{Change, Leads, EachOnce, passes}
 use Rattle.rssd_core.specs.Calls.{calls_before, collection_reads, named_page}
 use Rattle.rssd_core.specs.Moves.{sealed_records}
 use Rattle.rssd_core.specs.Within.{Went, IsCollect}
-use Rattle.page_codec.specs.Geometry.{Geometry, unit_page, unit_at}
+use Rattle.page_codec.specs.Geometry.{Geometry, units, unit_page, unit_at}
 use Rattle.page_codec.specs.Puts.{first_slot}
 use Rattle.page_codec.specs.Records.{live_record}
 use Rattle.page_codec.specs.Sectors.{stored}
@@ -31,11 +31,12 @@ use Rattle.page_codec.specs.Sound.{IsSound}
 use Rattle.collector.specs.Effects.{filled, recorded, former_in}
 use Rattle.collector.specs.Store.{Store, IsTrueStore, SameRows}
 
--- a device has at least two blocks, and pages, units of some pages, and two slots a page or three
+-- a device has at least two blocks, of pages and of units of some pages, and two slots a page or three
 pub record IsSized (g : Geometry) : Type 0 where
   pub two_blocks : 2 ≤ g.blocks
   pub pages : 0 < g.pages
   pub span : 0 < g.span
+  pub some_units : 0 < units g
   pub two_slots : 2 ≤ g.generations
 
 -- the row of a sector is set
@@ -148,10 +149,13 @@ pub record OverReadFailed (g : Geometry) (old new : Store) : Type 0 where
   pub cells : SameCells old.die new.die
   pub failed : ReadFailed 0 g.span old.die new.die
 
--- A change call failed: the row is as before or set, and one seq was drawn.
-pub record OverChangeFailed (g : Geometry) (d : Decoding) (h : Header) (row : List ℕ) (old new : Store) : Type 0 where
+-- A change call failed: some cells above the unit's carry the sector, the row is as before or set, and one seq was drawn.
+pub record OverChangeFailed (g : Geometry) (d : Decoding) (unit : ReuseUnit) (h : Header) (row : List ℕ) (old new : Store) : Type 0 where
   pub same : new ≡ record old { die = new.die; seq = old.seq + 1 }
   pub rows : SameRows g d old new ⊎ SetsRow g d h.sector row old new
+  pub cells : List ℕ
+  pub above : IsAbove cells (bytes_in g old unit)
+  pub carries : d.second_carries cells row ≡ true
   pub failed : ChangeFailed (g.span + 1) g.span old.die new.die
 
 -- how a put over the offered unit ends
@@ -159,4 +163,4 @@ abbrev pub OverEnds : Geometry → Decoding → ReuseUnit → Header → List �
 OverEnds g d unit h row (Ok Carried) old new = PutOver g d unit h row old new
 OverEnds g d unit h row (Ok Declined) old new = OverDeclined g d unit row old new
 OverEnds g d unit h row (Err (faults.Read)) old new = OverReadFailed g old new
-OverEnds g d unit h row (Err (faults.Change)) old new = OverChangeFailed g d h row old new
+OverEnds g d unit h row (Err (faults.Change)) old new = OverChangeFailed g d unit h row old new
