@@ -148,7 +148,7 @@ victim_is v valid b is =
 -- ---- the next page
 
 module _ (v : BookValue) (valid : IsValid v) where
-  active_is : (b : ℕ) → IsActive v b → first_block is_active v ≡ Some b
+  pub active_is : (b : ℕ) → IsActive v b → first_block is_active v ≡ Some b
   active_is b active = first_is v is_active b (in_range v is_active refl b active) active (λ c lt other. let same = valid.one_active c b other active in omega arith)
 
   no_active : NoneActive v → first_block is_active v ≡ None

@@ -5,6 +5,7 @@ pub mod device;
 mod at_hand;
 mod ftl;
 pub mod mounting;
+mod over;
 mod page;
 mod row;
 pub mod whole;
