@@ -119,13 +119,12 @@ holds_after g old new mid kept same stayed rest = record {
 
 -- a put on the next page of the Active block, as a call leaves it
 pub next_put : {Content : (ℕ → List ℕ) → Type 0} (g : Geometry) (block fill : ℕ) (h : Header) (old new : DieState) (book : BookValue) (table : List (Option Entry)) (seq : ℕ)
-    → Puts Content 1 (first_slot (next_page g block fill)) h old new → old.shape ≡ shape_of g → new.shape ≡ old.shape → IsShaped old → IsShaped new → 0 < g.span
+    → Puts Content 1 (first_slot (next_page g block fill)) h old new → old.shape ≡ shape_of g → new.shape ≡ old.shape → IsShaped old → IsShaped new 
     → IsTrue g old.cells book table seq → state_at book block ≡ Active fill → seq < 2 ^ 62 → h.seq ≡ seq → IsHeader h → h.sector < g.sectors → is_copy h ≡ false
     → PutsNext g block fill h old.cells new.cells
-next_put g block fill h old new book table seq p shape same shaped shaped_new spans t active small drawn header sector single = record {
+next_put g block fill h old new book table seq p shape same shaped shaped_new t active small drawn header sector single = record {
   block_in = within;
   slots = slots;
-  span = spans;
   active = is_active_block;
   header = header;
   sector = sector;

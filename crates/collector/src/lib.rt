@@ -3,8 +3,10 @@
 //! It knows the rules of collections and of idle moves, and nothing of offers or of whole commands.
 #![tactic(auto)]
 
+mod again;
 mod effect;
 mod idle;
+mod live;
 
 pub use effect::record_effect;
 pub use idle::move_one;
