@@ -4,6 +4,7 @@
 pub mod device;
 mod at_hand;
 mod ftl;
+mod idle;
 mod page;
 mod row;
 pub mod whole;
