@@ -1,9 +1,9 @@
 -- What the moves of an idle call, one after another, leave.
-use Rattle.std.proofs.Common.{◌≡◌, ◌≢◌, ◌⊎◌, inl, inr, ℕ, ◌+◌, ◌*◌, ◌<◌, ◌≤◌, true, false, List, [], ◌∷◌, ◌++◌, length, length-append, Option, Some, None, refl, sym, ap, ◌∙◌, subst, arith}
+use Rattle.std.proofs.Common.{◌≡◌, ◌≢◌, ◌⊎◌, inl, inr, ℕ, ◌+◌, ◌*◌, ◌<◌, ◌≤◌, true, false, if◌then◌else◌, List, [], ◌∷◌, ◌++◌, length, length-append, Option, Some, None, refl, sym, ap, ◌∙◌, subst, arith}
 use Rattle.std.specs.Prelude.{slice_index}
 use Rattle.std.specs.List.{All, Contains}
 use Rattle.std.proofs.lemmas.Bool.{cases_eq, cases_lt, eq-eqb, ne_eqb, false≢true}
-use Rattle.std.proofs.lemmas.List.Elements.{All-append, All-nil, Contains-append_left, Contains-append_right}
+use Rattle.std.proofs.lemmas.List.Elements.{All-push, All-nil, Contains-append_left, Contains-append_right}
 use Rattle.std.proofs.lemmas.List.{get_or_append_left}
 use Rattle.std.proofs.Math.Seq.{get_or-append_seam}
 use Rattle.cell_die.specs.DieState.{DieState}
@@ -21,7 +21,7 @@ use Rattle.page_codec.specs.Puts.{first_slot}
 use Rattle.page_codec.specs.Records.{Placed, live_record}
 use Rattle.page_codec.specs.TrueBook.{IsTrueActive, IsTrueState}
 use Rattle.collector.specs.Effects as effects
-use Rattle.collector.specs.Moves.{Moved, move_reads}
+use Rattle.collector.specs.Moves.{Moved, move_reads, plain_kind}
 use Rattle.collector.specs.Store.{Store, IsTrueStore, SameRows, Holds}
 use Rattle.collector.proofs.Books.{SameStates, recorded_states, active_within, state_here, state_there}
 use Rattle.collector.proofs.Tables.{filled_is, next_state}
@@ -54,7 +54,10 @@ run_tables g d _ _ _ (none old) t = t
 run_tables g d _ _ _ (more k old mid new run moved holds) t = moved.tables
 
 pub run_calls : (g : Geometry) (d : Decoding) (k : ℕ) (old new : Store) → MovesRun g d k old new → PassedWithin (2 * k) (k * move_reads g) old.die new.die
-run_calls g d _ _ _ (none old) = passed_within 0 (omega arith) (passed_none old.die)
+run_calls g d _ _ _ (none old) = subst (λ (r : ℕ). PassedWithin 0 r old.die old.die) (no_times (move_reads g)) (passed_within 0 (omega arith) (passed_none old.die))
+  where
+    no_times : (m : ℕ) → 0 ≡ 0 * m
+    no_times m = omega arith
 run_calls g d _ _ _ (more k old mid new run moved holds) =
     subst (λ (c : ℕ). PassedWithin c ((k + 1) * move_reads g) old.die new.die) changes
     (subst (λ (r : ℕ). PassedWithin (2 * k + 2) r old.die new.die) reads
@@ -86,18 +89,14 @@ fills_move r g d old new t m = leads_one r old.book new.book (Fills (Some m.vict
     fills : new.book ≡ filled_in old.book (first_block is_active old.book) (Some m.victim)
     fills = m.book ∙ sym (ap (λ (o : Option ℕ). filled_in old.book o (Some m.victim)) (active_is old.book t.kept m.block (ap is_active m.active)))
 
--- each of these changes is one of an idle call
-one_idle : (change : Change) → is_idle change ≡ true → All (λ c. is_idle c ≡ true) (change ∷ [])
-one_idle change is = search is
-
 pub run_fills : (g : Geometry) (d : Decoding) (k : ℕ) (old new : Store) → MovesRun g d k old new → IsTrueStore g old → FillsOnly old.book new.book
-run_fills g d _ _ _ (none old) t = record { changes = []; leads = λ r. leads_none r old.book; idle = All-nil _ }
+run_fills g d _ _ _ (none old) t = record { changes = []; leads = λ r. leads_none r old.book; idle = All-nil (λ change. is_idle change ≡ true) }
 run_fills g d _ _ _ (more k old mid new run moved holds) t =
     let so_far = run_fills g d k old mid run t in
     record {
       changes = so_far.changes ++ Fills (Some moved.victim) ∷ [];
       leads = λ r. leads_append r old.book mid.book new.book so_far.changes (Fills (Some moved.victim) ∷ []) (so_far.leads r) (fills_move r g d mid new (run_tables g d k old mid run t) moved);
-      idle = All-append _ so_far.changes (Fills (Some moved.victim) ∷ []) so_far.idle (one_idle (Fills (Some moved.victim)) refl);
+      idle = All-push (λ change. is_idle change ≡ true) so_far.changes (Fills (Some moved.victim)) so_far.idle refl;
     }
 
 -- ---- where the records went
@@ -117,9 +116,6 @@ pub record InOrder (g : Geometry) (k : ℕ) (old new : Store) : Type 0 where
 
 fill_is : (a b : ℕ) → Active a ≡ Active b → a ≡ b
 fill_is a b e = ap fill_of e
-
-none_in : (x : ℕ) → Contains [] x → ⊥
-none_in x there = search there
 
 module _ (g : Geometry) (d : Decoding) (old new : Store) (t : IsTrueStore g old) (m : Moved g d old new) where
   inside : m.block < g.blocks
@@ -243,16 +239,19 @@ module _ (g : Geometry) (d : Decoding) (k : ℕ) (old mid new : Store) (t : IsTr
       | inr past ↦ (
           let e : i ≡ length o.sectors = omega (arith, past, within, long) in
           let page : m.block * g.pages + m.fill ≡ o.block * g.pages + o.fill + i = ap (λ (b : ℕ). b * g.pages + m.fill) same.0 ∙ next (o.block * g.pages) i e in
-          (record { sector = m.first.header.sector; seq = mid.seq; kind = _ }, ap (live_record g new.die.cells) (at_last i e) ∙ (m.live ∙ ap (λ (p : ℕ). Some (record { place = first_slot p; header = _ })) page)))
+          (own, ap (live_record g new.die.cells) (at_last i e) ∙ (m.live ∙ ap (λ (p : ℕ). Some (record { place = first_slot p; header = own })) page)))
     ];
     others = λ s apart. m.others s (λ e. apart (Contains-append_right o.sectors (m.first.header.sector ∷ []) s (only s e))) ∙ o.others s (λ there. apart (Contains-append_left o.sectors (m.first.header.sector ∷ []) s there));
   }
     where
+      own : Header
+      own = record { sector = m.first.header.sector; seq = mid.seq; kind = plain_kind m.first.header }
+
       next : (n i : ℕ) → i ≡ length o.sectors → n + m.fill ≡ n + o.fill + i
       next n i e = omega (arith, same.1, o.count)
 
       only : (s : ℕ) → s ≡ m.first.header.sector → Contains (m.first.header.sector ∷ []) s
-      only s e = search e
+      only s e = (0, omega arith, sym e)
 
 pub run_order : (g : Geometry) (d : Decoding) (k : ℕ) (old new : Store) → MovesRun g d k old new → IsTrueStore g old → ((k ≡ 0) × (old ≡ new)) ⊎ InOrder g k old new
 run_order g d _ _ _ (none old) t = inl (refl, refl)

@@ -21,15 +21,15 @@ use striped::Scheme;
 /// A mounted device.
 #[derive(Drop)]
 pub struct Ftl<D: Die + Drop, C: Scheme + Drop> {
-    die: D,
-    scheme: C,
-    work: Work,
-    map: SectorMap,
-    book: Book,
-    seq: u64,
-    reuse_max: u32,
-    counts: Counts,
-    stopped: bool,
+    pub(crate) die: D,
+    pub(crate) scheme: C,
+    pub(crate) work: Work,
+    pub(crate) map: SectorMap,
+    pub(crate) book: Book,
+    pub(crate) seq: u64,
+    pub(crate) reuse_max: u32,
+    pub(crate) counts: Counts,
+    pub(crate) stopped: bool,
 }
 
 impl<D: Die + Drop, C: Scheme + Drop> Model for Ftl<D, C> {
