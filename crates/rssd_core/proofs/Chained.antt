@@ -5,6 +5,7 @@ use Rattle.std.specs.List.{count_by, sum_by}
 use Rattle.std.proofs.lemmas.List.Sums.{sum_by-append}
 use Rattle.cell_die.specs.DieState.{DieState, Failures}
 use Rattle.cell_die.specs.Calls.{Kept, Passed, PassedWithin, ChangeFailed, ReadFailed, Nearer, NearerWithin, WhilePowered}
+use Rattle.cell_die.specs.Calls as cell
 use Rattle.cell_die.specs.Counts.{Rose, Stayed}
 use Rattle.cell_die.proofs.Sequences.{kept_trans, passed_trans, passed_within}
 use Rattle.zero_count.specs.declared.Header.{Header}
@@ -15,7 +16,7 @@ use Rattle.page_codec.specs.Records.{header_in}
 use Rattle.page_codec.specs.Sound.{IsSound}
 use Rattle.collector.specs.Store.{Store, Holds, DrewSeqs}
 use Rattle.rssd_core.specs.BookChanges.{Change, Leads, UsesRule}
-use Rattle.rssd_core.specs.Failures.{TellsPower, CutCame}
+use Rattle.rssd_core.specs.Failures.{TellsPower, CutCame, cut_in, cut_of}
 use Rattle.rssd_core.specs.Within.{Went}
 
 -- what calls one after another keep
@@ -77,15 +78,61 @@ went_trans c r d s Bounded old mid new first then = record {
 pub went_passed : (c r : ℕ) (Bounded : Type 0) (old new : DieState) → Passed c r old new → Went c r Bounded old new
 went_passed c r Bounded old new passed = record { within = passed_within r (omega arith) passed; exact = λ free. passed }
 
+cut_after : (c r d s : ℕ) (a b e : Failures) → NearerWithin c r a b → cell.CutCame d s b e → cell.CutCame (c + d) (r + s) a e
+cut_after c r d s a b e first then = record {
+  armed = omega (arith, first.cut, then.armed);
+  within = omega (arith, first.cut, then.within);
+  gone = then.gone;
+  read_failure = omega (arith, first.read_failure, then.read_failure);
+  no_later = omega (arith, first.no_later, then.no_later);
+  read_failure_to_come = λ armed. then.read_failure_to_come (first.read_failure_to_come armed);
+}
+
+while_cut : (c r d s : ℕ) (x y z : Option Failures) → WhilePowered x y (NearerWithin c r) → WhilePowered y z (cell.CutCame d s) → WhilePowered x z (cell.CutCame (c + d) (r + s))
+while_cut c r d s None y z first then = tt
+while_cut c r d s (Some a) None z first then = absurd first
+while_cut c r d s (Some a) (Some b) None first then = absurd then
+while_cut c r d s (Some a) (Some b) (Some e) first then = λ powered. cut_after c r d s a b e (first powered) (then (first powered).powered)
+
+pub change_failed_then : (c r d s : ℕ) (old mid new : DieState) → PassedWithin c r old mid → ChangeFailed d s mid new → ChangeFailed (c + d) (r + s) old new
+change_failed_then c r d s old mid new first then = record {
+  read_faults = then.read_faults ∙ first.read_faults;
+  change_faults = subst (λ (n : ℕ). Rose n new.change_faults) first.change_faults then.change_faults;
+  failures = while_cut c r d s old.failures mid.failures new.failures first.failures then.failures;
+}
+
+-- a cut that came after so many calls was to come after them
+pub cut_later : (c r d s : ℕ) (old mid new : DieState) → PassedWithin c r old mid → ChangeFailed d s mid new → TellsPower old → CutCame old new → c < cut_of old
+cut_later c r d s old mid new first then power came = at old.failures mid.failures first.failures power came.0
+  where
+    at : (x y : Option Failures) → WhilePowered x y (NearerWithin c r) → IsSomeAnd x (λ failures. failures.powered ≡ true) → 0 < cut_in x → c < cut_in x
+    at None y near power armed = absurd (omega arith)
+    at (Some a) None near power armed = absurd near
+    at (Some a) (Some b) near power armed = (near power).cut_to_come armed
+
+-- a cut that came was at most so many calls away
+pub cut_within : (c r : ℕ) (old new : DieState) → ChangeFailed c r old new → TellsPower old → CutCame old new → cut_of old ≤ c
+cut_within c r old new failed power came = at old.failures new.failures failed.failures power came.0
+  where
+    at : (x y : Option Failures) → WhilePowered x y (cell.CutCame c r) → IsSomeAnd x (λ failures. failures.powered ≡ true) → 0 < cut_in x → cut_in x ≤ c
+    at None y cut power armed = absurd (omega arith)
+    at (Some a) None cut power armed = absurd cut
+    at (Some a) (Some b) cut power armed = (cut power).within
+
+-- where a read failed no cut came
+pub read_failed_no_cut : (c r : ℕ) (old new : DieState) → ReadFailed c r old new → TellsPower old → CutCame old new → ⊥
+read_failed_no_cut c r old new failed power came = at old.failures new.failures failed.failures power came.0 came.1
+  where
+    at : (x y : Option Failures) → WhilePowered x y (cell.ReadFailureCame c r) → IsSomeAnd x (λ failures. failures.powered ≡ true) → 0 < cut_in x → cut_in y ≡ 0 → ⊥
+    at None y read power armed gone = absurd (omega arith)
+    at (Some a) None read power armed gone = absurd read
+    at (Some a) (Some b) read power armed gone = let to_come = (read power).cut_to_come armed in omega (arith, to_come, gone)
+
 -- where no call failed no cut came
 pub no_cut_came : (c r : ℕ) (old new : DieState) → PassedWithin c r old new → TellsPower old → CutCame old new → ⊥
 no_cut_came c r old new passed power came = at old.failures new.failures passed.failures power came.0 came.1
   where
-    cut_in : Option Failures → ℕ
-    cut_in None = 0
-    cut_in (Some failures) = failures.cut
-
-    at : (x y : Option Failures) → WhilePowered x y (NearerWithin c r) → IsSomeAnd x (λ failures. failures.powered ≡ true) → 0 < (elim x as (λ _. ℕ) [ None ↦ 0 | Some f ↦ f.cut ]) → (elim y as (λ _. ℕ) [ None ↦ 0 | Some f ↦ f.cut ]) ≡ 0 → ⊥
+    at : (x y : Option Failures) → WhilePowered x y (NearerWithin c r) → IsSomeAnd x (λ failures. failures.powered ≡ true) → 0 < cut_in x → cut_in y ≡ 0 → ⊥
     at None y near power armed gone = absurd (omega arith)
     at (Some a) None near power armed gone = absurd near
     at (Some a) (Some b) near power armed gone = let n = near power in omega (arith, n.cut, n.cut_to_come armed, gone, armed)

@@ -24,8 +24,8 @@ use Rattle.rssd_core.specs.Idle.{MovesRun, MovesEnded, MovesFailed}
 use Rattle.rssd_core.specs.Moves.{IdleMoves, MovesBook, WhereCut}
 use Rattle.rssd_core.specs.Outcomes.{Holds, Idled, IdleFault, IdleMay, IdleAtCut, RisesTo, RisesFinished}
 use Rattle.rssd_core.specs.Within.{Finished}
-use Rattle.rssd_core.proofs.Chained.{holds_trans, leads_append, leads_one, no_cut_came}
-use Rattle.rssd_core.proofs.IdleCalls.{change_failed_later, read_failed_later, cut_between, no_cut_at_read}
+use Rattle.rssd_core.proofs.Chained.{holds_trans, leads_append, leads_one, no_cut_came, change_failed_then, cut_later, cut_within, read_failed_no_cut}
+use Rattle.rssd_core.proofs.IdleCalls.{read_failed_then}
 use Rattle.rssd_core.proofs.IdleLeft.{none_left_after}
 use Rattle.rssd_core.proofs.IdleRun.{InOrder, FillsOnly, run_holds, run_rows, run_seq, run_tables, run_calls, run_fills, run_order, run_few}
 use Rattle.rssd_core.proofs.WroteFirst.{view_at, moves_seq}
@@ -163,7 +163,7 @@ idle_read_failed d n k old new book first second declined moved stopped t e recy
     rise = k;
     rises = finished;
     tally = refl;
-    at_cut = λ power came. absurd (no_cut_at_read (2 * k + 0) (k * move_reads d.geometry + move_reads d.geometry) old.die new.die failed power came);
+    at_cut = λ power came. absurd (read_failed_no_cut (2 * k + 0) (k * move_reads d.geometry + move_reads d.geometry) old.die new.die failed power came);
   };
   seq = moves_seq d old new (view_at old first second declined moved) (view_at (with_book new book) first second declined (count_sum moved k)) refl refl refl refl
       (read_holds d n k old new (λ mid. MoveReadFailed d.geometry mid new) e) (omega (arith, seq_now, few d k old e.mid t e.run));
@@ -174,7 +174,7 @@ idle_read_failed d n k old new book first second declined moved stopped t e recy
     seq_now = ap (λ (s : Store). s.seq) e.failed.same ∙ seq_is d k old e.mid t e.run
 
     failed : ReadFailed (2 * k + 0) (k * move_reads d.geometry + move_reads d.geometry) old.die new.die
-    failed = read_failed_later (2 * k) (k * move_reads d.geometry) 0 (move_reads d.geometry) old.die e.mid.die new.die (calls d k old e.mid t e.run) e.failed.failed
+    failed = read_failed_then (2 * k) (k * move_reads d.geometry) 0 (move_reads d.geometry) old.die e.mid.die new.die (calls d k old e.mid t e.run) e.failed.failed
 
     more_reads : (m : ℕ) → k * m + m ≤ (k + 1) * m
     more_reads m = omega arith
@@ -203,7 +203,10 @@ idle_change_failed d n k old new first second declined moved stopped t e = recor
     rise = k;
     rises = finished;
     tally = refl;
-    at_cut = λ power came. cut_between (2 * k) (k * move_reads d.geometry) 2 (move_reads d.geometry) old.die e.mid.die new.die (calls d k old e.mid t e.run) e.failed.failed power;
+    at_cut = λ power came. (
+      cut_later (2 * k) (k * move_reads d.geometry) 2 (move_reads d.geometry) old.die e.mid.die new.die (calls d k old e.mid t e.run) e.failed.failed power came,
+      cut_within (2 * k + 2) (k * move_reads d.geometry + move_reads d.geometry) old.die new.die failed power came,
+    );
   };
   seq = moves_seq d old new (view_at old first second declined moved) (view_at new first second declined (count_sum moved k)) refl refl refl refl
       (read_holds d n k old new (λ mid. MoveChangeFailed d.geometry d.meaning.decoding mid new) e) (omega (arith, seq_now, few d k old e.mid t e.run));
@@ -214,7 +217,7 @@ idle_change_failed d n k old new first second declined moved stopped t e = recor
     seq_now = ap (λ (s : Store). s.seq) e.failed.same ∙ ap (λ (n : ℕ). n + 1) (seq_is d k old e.mid t e.run)
 
     failed : ChangeFailed (2 * k + 2) (k * move_reads d.geometry + move_reads d.geometry) old.die new.die
-    failed = change_failed_later (2 * k) (k * move_reads d.geometry) 2 (move_reads d.geometry) old.die e.mid.die new.die (calls d k old e.mid t e.run) e.failed.failed
+    failed = change_failed_then (2 * k) (k * move_reads d.geometry) 2 (move_reads d.geometry) old.die e.mid.die new.die (calls d k old e.mid t e.run) e.failed.failed
 
     more_reads : (m : ℕ) → k * m + m ≤ (k + 1) * m
     more_reads m = omega arith

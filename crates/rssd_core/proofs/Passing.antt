@@ -21,16 +21,16 @@ use Rattle.page_codec.proofs.PutLaws.{header_after}
 use Rattle.collector.specs.Effects.{recorded, former_in, MayDrop}
 use Rattle.collector.proofs.Books.{SameStates, one_at, one_in, recorded_states, valid_recorded, recorded_live, valid_state, spare_stays, state_here, state_there}
 use Rattle.collector.proofs.Room.{has_room}
-use Rattle.rssd_core.specs.Steps.{IsSized}
+use Rattle.rssd_core.specs.Steps.{IsSized, place_in, former_block}
 use Rattle.rssd_core.proofs.BlockLaws.{state_stays}
 use Rattle.rssd_core.proofs.Opening.{sizes_with_state}
 use Rattle.rssd_core.proofs.RecordLaws.{former_of, former_is, entry_is, live_moves, map_moves, may_drop}
-use Rattle.rssd_core.proofs.SecondWrite.{PutsOver, place_in, over_gate, none_committed, may, block_is, wins_from_gate, passed_state, other_stays}
+use Rattle.rssd_core.proofs.SecondWrite.{PutsOver, over_gate, none_committed, may, block_is, wins_from_gate, passed_state, other_stays}
 
 -- ---- the state after a pass
 
 -- a number at the last unit, and one before
-passed_cases : (v : BookValue) (unit : ReuseUnit) (P : State → Type 0) → P Reused → (unit.slot + 1 ≢ v.generations → P (Used unit.slot)) → (unit.number + 1 ≢ v.units → P (Recycled unit.slot (unit.number + 1))) → P (passed v unit)
+pub passed_cases : (v : BookValue) (unit : ReuseUnit) (P : State → Type 0) → P Reused → (unit.slot + 1 ≢ v.generations → P (Used unit.slot)) → (unit.number + 1 ≢ v.units → P (Recycled unit.slot (unit.number + 1))) → P (passed v unit)
 passed_cases v unit P reused used recycled = elim (cases_eq (unit.number + 1) v.units) [
   | inr more ↦ subst (λ (t : Bool). P (if t then (if unit.slot + 1 == v.generations then Reused else Used unit.slot) else Recycled unit.slot (unit.number + 1))) (sym (ne_eqb _ _ more)) (recycled more)
   | inl last ↦ subst (λ (t : Bool). P (if t then (if unit.slot + 1 == v.generations then Reused else Used unit.slot) else Recycled unit.slot (unit.number + 1))) (sym (eq-eqb _ _ last))
@@ -99,10 +99,6 @@ pub record WritesOver (g : Geometry) (unit : ReuseUnit) (h : Header) (old new : 
   pub tables : IsTrue g old book table seq
   pub offer : IsOffer book unit
   pub next : h.seq ≡ seq
-
--- the block of the former live record
-abbrev pub former_block : BookValue → List (Option Entry) → ℕ → Option ℕ
-former_block book table sector = former_in book (entry_at table sector)
 
 pub former_known : (g : Geometry) (cells : List (List ℕ)) (book : BookValue) (table : List (Option Entry)) (seq sector : ℕ) → IsTrue g cells book table seq → sector < g.sectors
     → former_block book table sector ≡ former_of g (live_record g cells sector)

@@ -35,14 +35,10 @@ use Rattle.page_codec.proofs.PutUnit.{blank_ungated}
 use Rattle.collector.specs.Effects.{recorded, former_in}
 use Rattle.collector.proofs.Books.{SameStates, recorded_states, valid_recorded, recorded_live, valid_state, spare_stays, state_here, state_there}
 use Rattle.collector.proofs.Room.{has_room}
-use Rattle.rssd_core.specs.Steps.{IsSized}
+use Rattle.rssd_core.specs.Steps.{IsSized, place_in}
 use Rattle.rssd_core.proofs.BlockLaws.{BlockStays, state_stays, block_of_page, block_of_unit, unit_within}
 use Rattle.rssd_core.proofs.RecordLaws.{former_of, former_is, entry_is, live_moves, map_moves, rows_move, may_drop}
 use Rattle.rssd_core.proofs.Wiping.{committed_header, live_within, read_in_block}
-
--- the slot that a unit offers, on the unit's first page
-abbrev pub place_in : Geometry → ReuseUnit → Place
-place_in g unit = record { page = unit_page g unit.block unit.number; slot = unit.slot }
 
 -- A put of a record over an offered unit, in any outcome.
 pub record PutsOver (g : Geometry) (unit : ReuseUnit) (h : Header) (old new : List (List ℕ)) : Type 0 where

@@ -5,6 +5,7 @@ pub mod device;
 mod at_hand;
 mod ftl;
 mod idle;
+mod over;
 mod page;
 mod row;
 pub mod whole;

@@ -1,0 +1,102 @@
+-- How a page comes to hand without a collection: it was at hand, a Clean block is taken, or the victim is erased.
+use Rattle.std.proofs.Common.{◌≡◌, inl, inr, ℕ, ◌+◌, ◌*◌, ◌^◌, ◌<◌, ◌≤◌, true, false, List, [], ◌∷◌, length, Option, Some, None, refl, sym, ap, ◌∙◌, subst, arith}
+use Rattle.cell_die.specs.DieState.{DieState}
+use Rattle.cell_die.specs.Changes.{IsErased}
+use Rattle.cell_die.specs.Calls.{Passed}
+use Rattle.cell_die.proofs.Sequences.{passed_none}
+use Rattle.striped.specs.Meaning.{Decoding}
+use Rattle.block_state.specs.declared.state.State.TheVariants.{Active}
+use Rattle.block_state.specs.Book.{BookValue, state_at, live_at, with_state}
+use Rattle.page_alloc.specs.declared.next_page.NextPage.{NextPage}
+use Rattle.page_alloc.specs.declared.next_page.NextPage.TheVariants.{Page, Take, Wipe, Collect}
+use Rattle.page_alloc.specs.CleanPage.{IsPageBranch, IsTakeBranch, IsWipeBranch}
+use Rattle.page_codec.specs.Geometry.{Geometry}
+use Rattle.collector.specs.Store.{Store, IsTrueStore, SameRows}
+use Rattle.collector.proofs.Books.{state_here}
+use Rattle.rssd_core.specs.Rules.{next_page}
+use Rattle.rssd_core.specs.BookChanges.{Change, Takes, Wipes, EachOnce}
+use Rattle.rssd_core.specs.Calls.{calls_before, collection_reads, named_page}
+use Rattle.rssd_core.specs.Steps.{IsSized, Opened}
+use Rattle.rssd_core.specs.Within.{Went, IsCollect}
+use Rattle.rssd_core.proofs.Chained.{leads_none, leads_one, went_passed}
+use Rattle.rssd_core.proofs.ClosedBlocks.{closed_within}
+use Rattle.rssd_core.proofs.Opening.{take_true}
+use Rattle.rssd_core.proofs.Rules.{next_is}
+use Rattle.rssd_core.proofs.Wiping.{Erasing, wipe_true, wipe_stored}
+
+-- the calls by what comes next
+calls_of : (g : Geometry) (old new : Store) (n : NextPage) → next_page old.book ≡ n → Went (calls_before old.book n) (collection_reads g old.die.cells n) (IsCollect n) old.die new.die
+    → Went (calls_before old.book (next_page old.book)) (0 + collection_reads g old.die.cells (next_page old.book)) (IsCollect (next_page old.book)) old.die new.die
+calls_of g old new n is w = subst (λ (m : NextPage). Went (calls_before old.book m) (0 + collection_reads g old.die.cells m) (IsCollect m) old.die new.die) (sym is)
+    (subst (λ (r : ℕ). Went (calls_before old.book n) r (IsCollect n) old.die new.die) (none_plus (collection_reads g old.die.cells n)) w)
+  where
+    none_plus : (r : ℕ) → r ≡ 0 + r
+    none_plus r = omega arith
+
+not_collected : (n : NextPage) → (IsCollect n → ⊥) → (victim spare : ℕ) → n ≡ Collect victim spare → ⊥
+not_collected n other victim spare is = other (subst IsCollect (sym is) tt)
+
+pub opened_page : (g : Geometry) (d : Decoding) (page : ℕ) (old : Store) → IsTrueStore g old → IsPageBranch old.book page → Opened g d page 0 old old
+opened_page g d page old t branch = record {
+  changes = [];
+  leads = λ reuse_max. leads_none reuse_max old.book;
+  once = record { takes = omega arith; wipes = omega arith; erases = omega arith; copies = omega arith; seals = omega arith };
+  passed_so = refl;
+  rises = refl;
+  collected = λ victim spare is. absurd (not_collected (Page page) (λ x. x) victim spare (sym next ∙ is));
+  named = ap (named_page old.book) (sym next);
+  branch = branch;
+  rows = refl;
+  few = omega arith;
+  tables = t;
+  calls = calls_of g old old (Page page) next (went_passed 0 0 ⊥ old.die old.die (passed_none old.die));
+}
+  where
+    next : next_page old.book ≡ Page page
+    next = next_is old.book t.kept t.one_spare (Page page) branch
+
+pub opened_take : (g : Geometry) (d : Decoding) (block page : ℕ) (old : Store) → IsSized g → IsTrueStore g old → IsTakeBranch old.book block → page ≡ block * old.book.pages
+    → Opened g d page 0 old (record old { book = with_state old.book block (Active 0) })
+opened_take g d block page old sized t take at = record {
+  changes = Takes block ∷ [];
+  leads = λ reuse_max. leads_one reuse_max old.book (with_state old.book block (Active 0)) (Takes block) (next, refl);
+  once = record { takes = omega arith; wipes = omega arith; erases = omega arith; copies = omega arith; seals = omega arith };
+  passed_so = refl;
+  rises = refl;
+  collected = λ victim spare is. absurd (not_collected (Take block) (λ x. x) victim spare (sym next ∙ is));
+  named = at ∙ ap (named_page old.book) (sym next);
+  branch = (block, 0, state_here old.book block (Active 0) take.1.0, at ∙ plus_none (block * old.book.pages));
+  rows = refl;
+  few = omega arith;
+  tables = take_true g old.die.cells old.book old.table old.seq block sized t take;
+  calls = calls_of g old (record old { book = with_state old.book block (Active 0) }) (Take block) next (went_passed 0 0 ⊥ old.die old.die (passed_none old.die));
+}
+  where
+    next : next_page old.book ≡ Take block
+    next = next_is old.book t.kept t.one_spare (Take block) take
+
+    plus_none : (n : ℕ) → n ≡ n + 0
+    plus_none n = omega arith
+
+pub opened_wipe : (g : Geometry) (d : Decoding) (block page : ℕ) (old : Store) (die : DieState) → Erasing g old.die die block → IsErased block old.die die → Passed 1 0 old.die die → IsTrueStore g old → IsWipeBranch old.book block
+    → page ≡ block * old.book.pages → Opened g d page 0 old (record old { die = die; book = with_state old.book block (Active 0) })
+opened_wipe g d block page old die e erased passed t wipe at = record {
+  changes = Wipes block ∷ [];
+  leads = λ reuse_max. leads_one reuse_max old.book (with_state old.book block (Active 0)) (Wipes block) (next, refl);
+  once = record { takes = omega arith; wipes = omega arith; erases = omega arith; copies = omega arith; seals = omega arith };
+  passed_so = refl;
+  rises = refl;
+  collected = λ victim spare is. absurd (not_collected (Wipe block) (λ x. x) victim spare (sym next ∙ is));
+  named = at ∙ ap (named_page old.book) (sym next);
+  branch = (block, 0, state_here old.book block (Active 0) (closed_within old.book block wipe.1.closed), at ∙ plus_none (block * old.book.pages));
+  rows = wipe_stored g d old.die die block e erased;
+  few = omega arith;
+  tables = wipe_true g old.die die old.book old.table old.seq block e erased t wipe;
+  calls = calls_of g old (record old { die = die; book = with_state old.book block (Active 0) }) (Wipe block) next (went_passed 1 0 ⊥ old.die die passed);
+}
+  where
+    next : next_page old.book ≡ Wipe block
+    next = next_is old.book t.kept t.one_spare (Wipe block) wipe
+
+    plus_none : (n : ℕ) → n ≡ n + 0
+    plus_none n = omega arith
