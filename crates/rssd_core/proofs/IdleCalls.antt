@@ -1,5 +1,5 @@
 -- Calls that all passed, their reads bounded only, and then some of which the last, a read, failed.
-use Rattle.std.proofs.Common.{◌≡◌, ℕ, ◌+◌, Option, Some, None, ◌∙◌, subst, arith}
+use Rattle.std.proofs.Common.{ℕ, ◌+◌, Option, Some, None, ◌∙◌, subst, arith}
 use Rattle.cell_die.specs.DieState.{DieState, Failures}
 use Rattle.cell_die.specs.Counts.{Rose}
 use Rattle.cell_die.specs.Calls.{PassedWithin, ReadFailed, NearerWithin, ReadFailureCame, WhilePowered}

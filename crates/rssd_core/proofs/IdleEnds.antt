@@ -1,5 +1,5 @@
 -- One move more, and how the moves of an idle call end.
-use Rattle.std.proofs.Common.{◌≡◌, ◌⊎◌, inl, inr, ℕ, ◌+◌, ◌^◌, ◌<◌, ◌≤◌, List, length, Option, Some, None, refl, sym, ap, ◌∙◌, subst, arith}
+use Rattle.std.proofs.Common.{◌≡◌, inl, ℕ, ◌+◌, ◌<◌, ◌≤◌, List, length, Option, Some, refl, sym, ap, ◌∙◌, subst}
 use Rattle.cell_die.specs.declared.shape.Shape.{Shape}
 use Rattle.striped.specs.Meaning.{Meaning, Decoding}
 use Rattle.sector_map.specs.declared.entry.Entry.{Entry}
@@ -11,11 +11,15 @@ use Rattle.page_codec.specs.TrueBook.{IsTrue}
 use Rattle.collector.specs.Moves.{Moved, MoveReadFailed, MoveChangeFailed, NoMoveLeft}
 use Rattle.collector.specs.Store.{Store, Holds, geometry_of}
 use Rattle.collector.proofs.Tables.{live_map_long}
-use Rattle.rssd_core.specs.Idle.{MovesRun, more, MovesEnded, MovesFailed, MovesEnd}
+use Rattle.rssd_core.specs.Idle.{MovesRun, more, MovesEnded, MovesEnd}
 
 -- the same die shape, scheme and number of sectors give the same numbers
 pub same_numbers : (s t : Shape) (m n : Meaning) (j k : ℕ) → s ≡ t → m ≡ n → j ≡ k → geometry_of s m j ≡ geometry_of t n k
 same_numbers s t m n j k shape meaning sectors = λ i. geometry_of (shape i) (meaning i) (sectors i)
+
+-- what stays in a call stays in it and all before it
+pub still : {X : Type 0} (first mid last : X) → last ≡ mid → mid ≡ first → last ≡ first
+still first mid last later before = later ∙ before
 
 -- a map of true tables has an entry for each sector
 pub table_long : (g : Geometry) (cells : List (List ℕ)) (book : BookValue) (table : List (Option Entry)) (seq : ℕ) → IsTrue g cells book table seq → length table ≡ g.sectors

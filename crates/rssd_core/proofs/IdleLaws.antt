@@ -1,33 +1,30 @@
 -- An idle call, from its moves and the recycling that follows to the contract.
-use Rattle.std.proofs.Common.{◌≡◌, ◌⊎◌, inl, inr, ℕ, ◌+◌, ◌*◌, ◌^◌, ◌<◌, ◌≤◌, Bool, true, false, List, [], ◌∷◌, ◌++◌, length, Option, refl, sym, ap, ◌∙◌, subst, arith}
-use Rattle.std.specs.List.{All}
+use Rattle.std.proofs.Common.{◌≡◌, inl, inr, ℕ, ◌+◌, ◌*◌, ◌<◌, ◌≤◌, Bool, true, false, List, [], ◌∷◌, ◌++◌, Option, refl, sym, ap, ◌∙◌, subst, arith}
 use Rattle.std.proofs.lemmas.List.Elements.{All-push}
 use Rattle.std.proofs.lemmas.Bool.{false≢true}
-use Rattle.cell_die.specs.DieState.{DieState}
-use Rattle.cell_die.specs.Counts.{count_sum, Rose}
+use Rattle.cell_die.specs.Counts.{count_sum}
 use Rattle.cell_die.specs.Calls.{PassedWithin, ReadFailed, ChangeFailed}
-use Rattle.striped.specs.Meaning.{Meaning}
 use Rattle.sector_map.specs.declared.entry.Entry.{Entry}
-use Rattle.block_state.specs.Book.{BookValue, state_at}
+use Rattle.block_state.specs.Book.{BookValue}
 use Rattle.reuse_pool.specs.Recycling.{Recycles}
-use Rattle.page_codec.specs.Geometry.{Geometry, units}
+use Rattle.page_codec.specs.Geometry.{units}
 use Rattle.page_codec.specs.Records.{live_record}
 use Rattle.page_codec.specs.Sectors.{stored}
-use Rattle.page_codec.specs.TrueBook.{IsTrueBook, live_map}
+use Rattle.page_codec.specs.TrueBook.{IsTrueBook}
 use Rattle.mount_scan.proofs.TrueRun.{true_book_by_run}
 use Rattle.collector.specs.Moves.{MoveReadFailed, MoveChangeFailed, move_reads}
 use Rattle.collector.specs.Store.{Store, IsTrueStore}
 use Rattle.collector.specs.Store as stores
 use Rattle.rssd_core.specs.BookChanges.{Change, Offers, Leads, is_idle}
-use Rattle.rssd_core.specs.DeviceValue.{Numbers, DeviceView, DeviceValue}
+use Rattle.rssd_core.specs.DeviceValue.{Numbers, DeviceValue}
 use Rattle.rssd_core.specs.Idle.{MovesRun, MovesEnded, MovesFailed}
-use Rattle.rssd_core.specs.Moves.{IdleMoves, MovesBook, WhereCut}
-use Rattle.rssd_core.specs.Outcomes.{Holds, Idled, IdleFault, IdleMay, IdleAtCut, RisesTo, RisesFinished}
+use Rattle.rssd_core.specs.Moves.{IdleMoves}
+use Rattle.rssd_core.specs.Outcomes.{Holds, Idled, IdleFault, IdleMay}
 use Rattle.rssd_core.specs.Within.{Finished}
 use Rattle.rssd_core.proofs.Chained.{holds_trans, leads_append, leads_one, no_cut_came, change_failed_then, cut_later, cut_within, read_failed_no_cut}
 use Rattle.rssd_core.proofs.IdleCalls.{read_failed_then}
 use Rattle.rssd_core.proofs.IdleLeft.{none_left_after}
-use Rattle.rssd_core.proofs.IdleRun.{InOrder, FillsOnly, run_holds, run_rows, run_seq, run_tables, run_calls, run_fills, run_order, run_few}
+use Rattle.rssd_core.proofs.IdleRun.{FillsOnly, run_holds, run_rows, run_seq, run_tables, run_calls, run_fills, run_order, run_few}
 use Rattle.rssd_core.proofs.WroteFirst.{view_at, moves_seq}
 
 -- a device over a store, with these tallies
@@ -86,11 +83,18 @@ module _ (d : Numbers) (k : ℕ) (old mid : Store) (t : IsTrueStore d.geometry o
   moves : (first second declined moved moved' : ℕ) (book : BookValue) → IdleMoves d (view_at old first second declined moved) (view_at (with_book mid book) first second declined moved') k
   moves first second declined moved moved' book = elim (run_order d.geometry d.meaning.decoding k old mid run t) [
     | inr o ↦ (o.block, o.fill, o.sectors, o.count, λ some. o.active, record { distinct = o.distinct; moved = o.moved; others = o.others })
-    | inl none ↦ (0, 0, [], sym none.0, λ some. absurd (omega (arith, none.0)), record {
+    | inl none ↦ (
+      0,
+      0,
+      [],
+      sym none.0,
+      λ some. absurd (omega (arith, none.0)),
+      record {
         distinct = λ i j before within. absurd (omega arith);
         moved = λ i within. absurd (omega arith);
         others = λ sector apart. subst (λ (s : Store). live_record d.geometry s.die.cells sector ≡ live_record d.geometry old.die.cells sector) none.1 refl;
-      })
+      },
+    )
   ]
 
   -- the book by the moves, and then by the recycling

@@ -1,6 +1,6 @@
 -- Where no idle victim fits the room, none fits it after the recycling rule: it moves no live record, and no block opens or closes.
-use Rattle.std.proofs.Common.{◌≡◌, ◌≢◌, ◌⊎◌, inl, inr, ℕ, ◌+◌, ◌-◌, ◌*◌, ◌<◌, ◌≤◌, Bool, true, false, List, length, get_or, Option, Some, None, refl, sym, ap, ◌∙◌, subst, arith, get_or-set_same, get_or-set_other}
-use Rattle.std.proofs.lemmas.Bool.{cases_Bool, cases_eq, cases_lt, false≢true}
+use Rattle.std.proofs.Common.{◌≡◌, ◌≢◌, inl, inr, ℕ, ◌<◌, ◌≤◌, Bool, true, false, List, length, get_or, Option, Some, None, refl, sym, ap, ◌∙◌, arith, get_or-set_same, get_or-set_other}
+use Rattle.std.proofs.lemmas.Bool.{cases_eq, cases_lt, false≢true}
 use Rattle.std.proofs.lemmas.List.{get_or_past}
 use Rattle.std.specs.List.{position, position_or_len}
 use Rattle.std.proofs.lemmas.Grind.{common_steps}
@@ -9,7 +9,7 @@ use Rattle.std.proofs.lemmas.List.Sums.{fails_before_first}
 use Rattle.block_state.specs.declared.state.State.{State}
 use Rattle.block_state.specs.declared.state.State.TheVariants.{Clean, Active, Used, Recycled, Reused, Spare}
 use Rattle.block_state.specs.State.{is_active, is_closed}
-use Rattle.block_state.specs.Book.{BookValue, NoneActive, IsActive, IsClosed, state_at, live_at, with_state}
+use Rattle.block_state.specs.Book.{BookValue, NoneActive, IsClosed, state_at, with_state}
 use Rattle.block_state.specs.Victim.{NoneFits}
 use Rattle.reuse_pool.specs.Recycling.{IsDue, Recycles, is_used, recycled}
 use Rattle.reuse_pool.proofs.Steps.{due_within, kept_by_run}

@@ -17,7 +17,6 @@ use Rattle.mount_scan.proofs.TrueRun.{true_book_by_run}
 use Rattle.collector.specs.Moves.{MoveReadFailed, MoveChangeFailed}
 use Rattle.collector.specs.Store.{Store, IsTrueStore, geometry_of, store}
 use Rattle.collector.specs.Store as stores
-use Rattle.rssd_core.specs.declared.device.Counts.{Counts}
 use Rattle.rssd_core.specs.DeviceValue.{Numbers, DeviceValue}
 use Rattle.rssd_core.specs.Idle.{MovesEnd}
 use Rattle.rssd_core.specs.Kept.{IsKept}
@@ -31,6 +30,14 @@ use Rattle.rssd_core.proofs.IdleRun.{run_holds, run_tables}
 -- the device's numbers, its tallies and whether it is stopped, each as another term of the same value
 device_as : (d e : Numbers) (s : Store) (first second declined m n : ℕ) (a b : Bool) → e ≡ d → n ≡ m → b ≡ a → device_at d s first second declined m a ≡ device_at e s first second declined n b
 device_as d e s first second declined m n a b numbers tally stopped = λ i. device_at (sym numbers i) s first second declined (sym tally i) (sym stopped i)
+
+-- the tally, by the number that was added
+pub tally_is : (moved added count result : ℕ) → result ≡ count_sum moved added → added ≡ count → result ≡ count_sum moved count
+tally_is moved added count result sum same = sum ∙ ap (count_sum moved) same
+
+-- what ended the moves
+pub ended_by : (end : Option PutFault) (was fault : PutFault) → end ≡ Some was → was ≡ fault → end ≡ Some fault
+ended_by end was fault is same = is ∙ ap Some same
 
 -- what all ends of the moves keep
 ends_holds : (d : Numbers) (n k : ℕ) (fault : Option PutFault) (old new : Store) → MovesEnd d.geometry d.meaning.decoding n k fault old new → stores.Holds d.geometry old new

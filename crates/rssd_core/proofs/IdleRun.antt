@@ -1,12 +1,11 @@
 -- What the moves of an idle call, one after another, leave.
-use Rattle.std.proofs.Common.{◌≡◌, ◌≢◌, ◌⊎◌, inl, inr, ℕ, ◌+◌, ◌*◌, ◌<◌, ◌≤◌, true, false, if◌then◌else◌, List, [], ◌∷◌, ◌++◌, length, length-append, Option, Some, None, refl, sym, ap, ◌∙◌, subst, arith}
+use Rattle.std.proofs.Common.{◌≡◌, ◌≢◌, ◌⊎◌, inl, inr, ℕ, ◌+◌, ◌*◌, ◌<◌, ◌≤◌, true, if◌then◌else◌, List, [], ◌∷◌, ◌++◌, length, length-append, Option, Some, refl, sym, ap, ◌∙◌, subst, arith}
 use Rattle.std.specs.Prelude.{slice_index}
 use Rattle.std.specs.List.{All, Contains}
 use Rattle.std.proofs.lemmas.Bool.{cases_eq, cases_lt, eq-eqb, ne_eqb, false≢true}
 use Rattle.std.proofs.lemmas.List.Elements.{All-push, All-nil, Contains-append_left, Contains-append_right}
 use Rattle.std.proofs.lemmas.List.{get_or_append_left}
 use Rattle.std.proofs.Math.Seq.{get_or-append_seam}
-use Rattle.cell_die.specs.DieState.{DieState}
 use Rattle.cell_die.specs.Calls.{PassedWithin}
 use Rattle.cell_die.proofs.Sequences.{kept_refl, passed_none, passed_within}
 use Rattle.zero_count.specs.declared.Header.{Header}
@@ -14,16 +13,16 @@ use Rattle.striped.specs.Meaning.{Decoding}
 use Rattle.block_state.specs.declared.state.State.{State}
 use Rattle.block_state.specs.declared.state.State.TheVariants.{Active, Used}
 use Rattle.block_state.specs.State.{is_active, is_closed}
-use Rattle.block_state.specs.Book.{BookValue, IsActive, NoneActive, state_at, with_state}
+use Rattle.block_state.specs.Book.{BookValue, NoneActive, state_at, with_state}
 use Rattle.page_alloc.specs.declared.next_page.NextPage.TheVariants.{Page}
 use Rattle.page_codec.specs.Geometry.{Geometry, block_of}
 use Rattle.page_codec.specs.Puts.{first_slot}
 use Rattle.page_codec.specs.Records.{Placed, live_record}
-use Rattle.page_codec.specs.TrueBook.{IsTrueActive, IsTrueState}
+use Rattle.page_codec.specs.TrueBook.{IsTrueState}
 use Rattle.collector.specs.Effects as effects
 use Rattle.collector.specs.Moves.{Moved, move_reads, plain_kind}
 use Rattle.collector.specs.Store.{Store, IsTrueStore, SameRows, Holds}
-use Rattle.collector.proofs.Books.{SameStates, recorded_states, active_within, state_here, state_there}
+use Rattle.collector.proofs.Books.{recorded_states, active_within, state_here, state_there}
 use Rattle.collector.proofs.Tables.{filled_is, next_state}
 use Rattle.rssd_core.specs.BookChanges.{Change, Fills, Leads, filled_in, is_idle}
 use Rattle.rssd_core.specs.Rules.{fill_of, first_block, next_page}

@@ -1,5 +1,5 @@
 -- The moves of an idle call, one after another, and how they end.
-use Rattle.std.specs.Prelude.{◌≡◌, ◌⊎◌, ℕ, ◌+◌, ◌^◌, ◌<◌, ◌≤◌, Option, Some, None}
+use Rattle.std.specs.Prelude.{◌⊎◌, ℕ, ◌+◌, ◌^◌, ◌<◌, ◌≤◌, Option, Some, None}
 use Rattle.striped.specs.Meaning.{Decoding}
 use Rattle.page_codec.specs.Geometry.{Geometry}
 use Rattle.page_codec.specs.declared.fault.PutFault.{PutFault}

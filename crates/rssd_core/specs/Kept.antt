@@ -1,7 +1,5 @@
 -- What a mounted device keeps between its calls.
-use Rattle.std.specs.Prelude.{◌≡◌, ◌<◌, ◌≤◌, ◌-◌, ◌*◌, false, List, Option, length}
-use Rattle.cell_die.specs.DieState.{DieState}
-use Rattle.striped.specs.Meaning.{Meaning}
+use Rattle.std.specs.Prelude.{◌≡◌, ◌<◌, ◌≤◌, ◌-◌, ◌*◌, false, List, Option}
 use Rattle.sector_map.specs.declared.entry.Entry.{Entry}
 use Rattle.page_codec.specs.Geometry.{units}
 use Rattle.page_codec.specs.Sizes.{Sizes, Serves, ServesScheme}
