@@ -4,6 +4,7 @@
 pub mod device;
 mod at_hand;
 mod ftl;
+mod idle;
 mod over;
 pub mod mounting;
 mod page;
