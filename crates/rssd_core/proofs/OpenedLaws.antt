@@ -1,28 +1,29 @@
 -- How a page comes to hand without a collection: it was at hand, a Clean block is taken, or the victim is erased.
-use Rattle.std.proofs.Common.{◌≡◌, inl, inr, ℕ, ◌+◌, ◌*◌, ◌^◌, ◌<◌, ◌≤◌, true, false, List, [], ◌∷◌, length, Option, Some, None, refl, sym, ap, ◌∙◌, subst, arith}
-use Rattle.cell_die.specs.DieState.{DieState}
-use Rattle.cell_die.specs.Changes.{IsErased}
-use Rattle.cell_die.specs.Calls.{Passed}
+use Rattle.std.proofs.Common.{◌≡◌, ◌⊎◌, inl, inr, ℕ, ◌+◌, ◌*◌, ◌^◌, ◌<◌, ◌≤◌, true, false, List, [], ◌∷◌, length, Option, Some, None, refl, sym, ap, ◌∙◌, subst, arith}
+use Rattle.cell_die.specs.DieState.{DieState, IsShaped}
+use Rattle.cell_die.specs.declared.shape.Shape.{Shape}
+use Rattle.cell_die.specs.Changes.{IsErased, SameCells, OnlyBlock, ErasedInPart}
+use Rattle.cell_die.specs.Calls.{Passed, Kept, ChangeFailed}
 use Rattle.cell_die.proofs.Sequences.{passed_none}
-use Rattle.striped.specs.Meaning.{Decoding}
+use Rattle.striped.specs.Meaning.{Meaning, Decoding}
 use Rattle.block_state.specs.declared.state.State.TheVariants.{Active}
 use Rattle.block_state.specs.Book.{BookValue, state_at, live_at, with_state}
 use Rattle.page_alloc.specs.declared.next_page.NextPage.{NextPage}
 use Rattle.page_alloc.specs.declared.next_page.NextPage.TheVariants.{Page, Take, Wipe, Collect}
 use Rattle.page_alloc.specs.CleanPage.{IsPageBranch, IsTakeBranch, IsWipeBranch}
-use Rattle.page_codec.specs.Geometry.{Geometry}
-use Rattle.collector.specs.Store.{Store, IsTrueStore, SameRows}
+use Rattle.page_codec.specs.Geometry.{Geometry, shape_of}
+use Rattle.collector.specs.Store.{Store, IsTrueStore, SameRows, geometry_of}
 use Rattle.collector.proofs.Books.{state_here}
 use Rattle.rssd_core.specs.Rules.{next_page}
 use Rattle.rssd_core.specs.BookChanges.{Change, Takes, Wipes, EachOnce}
 use Rattle.rssd_core.specs.Calls.{calls_before, collection_reads, named_page}
-use Rattle.rssd_core.specs.Steps.{IsSized, Opened}
+use Rattle.rssd_core.specs.Steps.{IsSized, Opened, OpenChangeFailed}
 use Rattle.rssd_core.specs.Within.{Went, IsCollect}
 use Rattle.rssd_core.proofs.Chained.{leads_none, leads_one, went_passed}
 use Rattle.rssd_core.proofs.ClosedBlocks.{closed_within}
 use Rattle.rssd_core.proofs.Opening.{take_true}
 use Rattle.rssd_core.proofs.Rules.{next_is}
-use Rattle.rssd_core.proofs.Wiping.{Erasing, wipe_true, wipe_stored}
+use Rattle.rssd_core.proofs.Wiping.{Erasing, wipe_true, wipe_stored, wipe_block, torn_erase}
 
 -- the calls by what comes next
 calls_of : (g : Geometry) (old new : Store) (n : NextPage) → next_page old.book ≡ n → Went (calls_before old.book n) (collection_reads g old.die.cells n) (IsCollect n) old.die new.die
@@ -100,3 +101,36 @@ opened_wipe g d block page old die e erased passed t wipe at = record {
 
     plus_none : (n : ℕ) → n ≡ n + 0
     plus_none n = omega arith
+
+-- the erase of a wipe failed
+pub wipe_failed : (g : Geometry) (d : Decoding) (block : ℕ) (old : Store) (die : DieState) → Erasing g old.die die block → SameCells old.die die ⊎ ErasedInPart block old.die die → ChangeFailed 1 0 old.die die → IsTrueStore g old
+    → IsWipeBranch old.book block → OpenChangeFailed g d 0 0 old (record old { die = die })
+wipe_failed g d block old die e how failed t wipe = record {
+  changes = [];
+  leads = λ reuse_max. leads_none reuse_max old.book;
+  once = record { takes = omega arith; wipes = omega arith; erases = omega arith; copies = omega arith; seals = omega arith };
+  passed_so = refl;
+  none_sealed = refl;
+  rows = λ sound. (torn_erase g d old.die die block e how sound).rows;
+  few = omega arith;
+  failed = subst (λ (n : NextPage). ChangeFailed (calls_before old.book n) (0 + collection_reads g old.die.cells n) old.die die) (sym next) failed;
+}
+  where
+    next : next_page old.book ≡ Wipe block
+    next = next_is old.book t.kept t.one_spare (Wipe block) wipe
+
+-- an erase of the victim of a wipe
+pub wipe_erases : (g : Geometry) (block : ℕ) (old : Store) (die : DieState) → IsSized g → old.die.shape ≡ shape_of g → Kept old.die die → IsShaped old.die → IsShaped die → OnlyBlock block old.die die → IsTrueStore g old → IsWipeBranch old.book block
+    → Erasing g old.die die block
+wipe_erases g block old die sized shape kept shaped shaped_new only t wipe =
+    let b = wipe_block g old.die.cells old.book old.table old.seq block t wipe in
+    record { sized = sized; inside = b.0; shape = shape; kept = kept; shaped = shaped; shaped_new = shaped_new; only = only; free = b.1 }
+
+-- the numbers of a device stay
+pub geometry_same : {shape shape' : Shape} {meaning meaning' : Meaning} {n n' : ℕ} → shape' ≡ shape → meaning' ≡ meaning → n' ≡ n → geometry_of shape' meaning' n' ≡ geometry_of shape meaning n
+geometry_same s m l = λ i. geometry_of (s i) (m i) (l i)
+
+-- what is said of a device of the same numbers
+pub over_same : {shape shape' : Shape} {meaning meaning' : Meaning} {n n' : ℕ} (P : Geometry → Meaning → Type 0) → shape' ≡ shape → meaning' ≡ meaning → n' ≡ n → P (geometry_of shape' meaning' n') meaning' → P (geometry_of shape meaning n) meaning
+over_same {shape} {shape'} {meaning} {meaning'} {n} {n'} P s m l p =
+    subst (λ (x : Meaning). P (geometry_of shape x n) x) m (subst (λ (y : Shape). P (geometry_of y meaning' n) meaning') s (subst (λ (z : ℕ). P (geometry_of shape' meaning' z) meaning') l p))

@@ -14,7 +14,12 @@ use Rattle.rssd_core.specs.Rules.{offer_of}
 use Rattle.rssd_core.specs.Calls.{offer_reads}
 use Rattle.rssd_core.specs.DeviceValue.{Numbers, DeviceValue}
 use Rattle.rssd_core.specs.Outcomes.{Wrote, WriteFault, firsts, seconds, declines}
-use Rattle.rssd_core.specs.Placing.{CleanEnds, CleanPut, CleanPutFailed, PlaceEnds, NotOffered, Turned, Carried, UnitUnread, UnitFailed}
+use Rattle.striped.specs.Meaning.{Decoding}
+use Rattle.page_codec.specs.Geometry.{Geometry}
+use Rattle.reuse_pool.specs.declared.unit.ReuseUnit.{ReuseUnit}
+use Rattle.reuse_pool.specs.Offer.{IsOffer}
+use Rattle.rssd_core.specs.Steps.{OverEnds, OverDeclined}
+use Rattle.rssd_core.specs.Placing.{header_at, CleanEnds, CleanPut, CleanPutFailed, PlaceEnds, NotOffered, Turned, Carried, UnitUnread, UnitFailed}
 use Rattle.rssd_core.specs.Writes.{OfferCarries}
 use Rattle.rssd_core.proofs.Declining.{declines_not, offer_declines, offer_reads_are, declined_opened, declined_read_failed, declined_change_failed, over_read_failed, over_change_failed}
 use Rattle.rssd_core.proofs.FirstFailed.{put_failed, open_failed, open_read_failed}
@@ -105,3 +110,15 @@ module _ (d : Numbers) (sector : ℕ) (bytes : List ℕ) (old new : Store) (firs
   ]
   unchanged (inr (inr p)) = subst (λ (m : ℕ). Faults d sector bytes old new new.book true first second declined moved m) (sym p.tally)
       (over_change_failed d sector 1 p.unit bytes old new first second declined moved fresh few.few_moved p.offer holds p.put)
+
+-- ---- from the calls that were made
+
+pub over_faults : (g : Geometry) (d : Decoding) (sector : ℕ) (bytes : List ℕ) (unit : ReuseUnit) (fault : PutFault) (old new : Store) (moved : ℕ) → IsOffer old.book unit → OverEnds g d unit (header_at sector old.seq) bytes (Err fault) old new
+    → PlaceEnds g d sector bytes (Err fault) old new moved moved
+over_faults g d sector bytes unit (faults.Read) old new moved offer ends = inr (inr (record { unit = unit; offer = offer; put = ends; tally = refl }))
+over_faults g d sector bytes unit (faults.Change) old new moved offer ends = inr (inr (record { unit = unit; offer = offer; put = ends; tally = refl }))
+
+pub turned_faults : (g : Geometry) (d : Decoding) (sector : ℕ) (bytes : List ℕ) (unit : ReuseUnit) (fault : PutFault) (old start new : Store) (moved moved' : ℕ) → IsOffer old.book unit → OverDeclined g d unit bytes old start
+    → CleanEnds g d sector bytes (Err fault) start new moved moved' → PlaceEnds g d sector bytes (Err fault) old new moved moved'
+turned_faults g d sector bytes unit (faults.Read) old start new moved moved' offer declined ends = inr (inl (record { unit = unit; offer = offer; start = start; declined = declined; ends = ends }))
+turned_faults g d sector bytes unit (faults.Change) old start new moved moved' offer declined ends = inr (inl (record { unit = unit; offer = offer; start = start; declined = declined; ends = ends }))

@@ -18,6 +18,18 @@ use Rattle.rssd_core.specs.Steps.{Opened, OpenReadFailed, OpenChangeFailed, PutN
 abbrev pub header_at : ℕ → ℕ → Header
 header_at sector seq = record { sector = sector; seq = seq; kind = 1 }
 
+-- a page came to hand, and the tally of moved records rose
+pub record CameToHand (g : Geometry) (d : Decoding) (page : ℕ) (old new : Store) (moved moved' : ℕ) : Type 0 where
+  pub rise : ℕ
+  pub opened : Opened g d page rise old new
+  pub tally : moved' ≡ count_sum moved rise
+
+-- how getting a page ends
+abbrev pub OpenEnds : Geometry → Decoding → Result ℕ PutFault → Store → Store → ℕ → ℕ → Type 0
+OpenEnds g d (Ok page) old new moved moved' = CameToHand g d page old new moved moved'
+OpenEnds g d (Err (faults.Read)) old new moved moved' = OpenReadFailed g d 0 0 old new × (moved' ≡ moved)
+OpenEnds g d (Err (faults.Change)) old new moved moved' = OpenChangeFailed g d 0 0 old new × (moved' ≡ moved)
+
 -- A page came to hand, and the sector stands on it.
 pub record CleanPut (g : Geometry) (d : Decoding) (sector : ℕ) (row : List ℕ) (old new : Store) (moved moved' : ℕ) : Type 0 where
   pub page : ℕ

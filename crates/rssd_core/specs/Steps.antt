@@ -23,7 +23,7 @@ use Rattle.rssd_core.specs.BookChanges.{Change, Leads, EachOnce, passes}
 use Rattle.rssd_core.specs.Calls.{calls_before, collection_reads, named_page}
 use Rattle.rssd_core.specs.Moves.{sealed_records}
 use Rattle.rssd_core.specs.Within.{Went, IsCollect}
-use Rattle.page_codec.specs.Geometry.{Geometry, unit_page, unit_at}
+use Rattle.page_codec.specs.Geometry.{Geometry, units, unit_page, unit_at}
 use Rattle.page_codec.specs.Puts.{first_slot}
 use Rattle.page_codec.specs.Records.{live_record}
 use Rattle.page_codec.specs.Sectors.{stored}
@@ -31,11 +31,12 @@ use Rattle.page_codec.specs.Sound.{IsSound}
 use Rattle.collector.specs.Effects.{filled, recorded, former_in}
 use Rattle.collector.specs.Store.{Store, IsTrueStore, SameRows}
 
--- a device has at least two blocks, and pages, units of some pages, and two slots a page or three
+-- a device has at least two blocks, of pages and of units of some pages, and two slots a page or three
 pub record IsSized (g : Geometry) : Type 0 where
   pub two_blocks : 2 ≤ g.blocks
   pub pages : 0 < g.pages
   pub span : 0 < g.span
+  pub some_units : 0 < units g
   pub two_slots : 2 ≤ g.generations
 
 -- the row of a sector is set

@@ -3,9 +3,12 @@
 
 pub mod device;
 mod at_hand;
+mod collecting;
 mod ftl;
+mod clean_page;
 mod over;
 mod page;
+mod placing;
 mod row;
 pub mod whole;
 
