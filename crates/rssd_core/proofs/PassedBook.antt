@@ -24,11 +24,11 @@ use Rattle.rssd_core.specs.Steps.{passing}
 use Rattle.rssd_core.proofs.Passing.{passed_cases, passed_not_active, passed_not_spare}
 
 -- a test that tells the two states of a block the same finds the same first block
-first_same : (test : State → Bool) (v : BookValue) (b : ℕ) (s : State) → test s ≡ test (state_at v b) → first_block test (with_state v b s) ≡ first_block test v
+pub first_same : (test : State → Bool) (v : BookValue) (b : ℕ) (s : State) → test s ≡ test (state_at v b) → first_block test (with_state v b s) ≡ first_block test v
 first_same test v b s same = ap₂ (λ (p n : ℕ). cond (nat_lt p n) (Some p) None) (position_or_len-set test v.states b s Clean same) (length-set v.states b s)
 
 -- the first block passes the test
-first_passes : (test : State → Bool) (v : BookValue) (b : ℕ) → first_block test v ≡ Some b → test (state_at v b) ≡ true
+pub first_passes : (test : State → Bool) (v : BookValue) (b : ℕ) → first_block test v ≡ Some b → test (state_at v b) ≡ true
 first_passes test v b is = (position-Some test v.states b Clean is).1
 
 passed_not_clean : (v : BookValue) (unit : ReuseUnit) → is_clean (passed v unit) ≡ false
