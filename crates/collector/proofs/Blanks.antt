@@ -1,6 +1,6 @@
 -- Blank pages and slots hold no header, and a record is committed only where its header stands.
-use Rattle.std.proofs.Common.{◌≡◌, inl, inr, ℕ, zero, suc, ◌+◌, ◌-◌, ◌*◌, ◌<◌, ◌≤◌, Bool, true, false, List, [], ◌∷◌, take, drop, ◌&&◌, ◌==◌, slice_index, nat_lt, if◌then◌else◌, Option, Some, None, refl, sym, ap, ap₂, ◌∙◌, arith, subst, get_or-drop}
-use Rattle.std.proofs.lemmas.Bool.{cases_Bool, and_parts, eqb-true}
+use Rattle.std.proofs.Common.{◌≡◌, ℕ, zero, suc, ◌+◌, ◌-◌, ◌*◌, Bool, true, false, List, [], ◌∷◌, take, drop, ◌&&◌, ◌==◌, slice_index, nat_lt, if◌then◌else◌, Option, Some, None, refl, ap, ap₂, arith}
+use Rattle.std.proofs.lemmas.Bool.{and_parts, eqb-true}
 use Rattle.std.proofs.lemmas.Option.{same_Some, none-some}
 use Rattle.cell_die.specs.Cells.{page_at, is_blank}
 use Rattle.zero_count.specs.declared.Header.{Header}

@@ -4,11 +4,11 @@ use Rattle.std.proofs.lemmas.Bool.{cases_eq, cases_lt, eq-eqb, ne_eqb, false≢t
 use Rattle.std.proofs.lemmas.List.{get_or_past}
 use Rattle.block_links.specs.Lists.{times, without}
 use Rattle.block_state.specs.declared.state.State.{State}
-use Rattle.block_state.specs.declared.state.State.TheVariants.{Clean, Active, Used, Recycled, Reused, Spare}
+use Rattle.block_state.specs.declared.state.State.TheVariants.{Clean, Active}
 use Rattle.block_state.specs.State.{is_closed, is_active, is_spare, InRange}
 use Rattle.block_state.specs.Book.{BookValue, IsValid, IsActive, IsSpare, HasOneSpare, state_at, live_at, with_state, with_live}
 use Rattle.block_state.proofs.Order.{times-reordered_same, times-reordered_other, times-moved_back}
-use Rattle.collector.specs.Effects.{one_less, recorded, filled, fill_of, MayDrop}
+use Rattle.collector.specs.Effects.{recorded, MayDrop}
 
 -- ---- a block gets another state
 

@@ -1,5 +1,5 @@
 -- Counts over a range, of two tests that agree but at one place.
-use Rattle.std.proofs.Common.{◌≡◌, ◌≢◌, ◌⊎◌, inl, inr, ℕ, zero, suc, ◌+◌, ◌<◌, ◌≤◌, Bool, true, false, not, ◌&&◌, ◌==◌, cond, refl, sym, ap, ap₂, ◌∙◌, arith, subst}
+use Rattle.std.proofs.Common.{◌≡◌, ◌≢◌, ◌⊎◌, inl, inr, ℕ, zero, suc, ◌+◌, ◌<◌, ◌≤◌, Bool, true, false, not, ◌&&◌, ◌==◌, cond, refl, sym, ap, ap₂, ◌∙◌, arith}
 use Rattle.std.specs.List.{count_by, range_with_len}
 use Rattle.std.proofs.lemmas.Bool.{cases_eq, cases_Bool, and_parts, eqb-true, eq-eqb, ne_eqb, false≢true}
 use Rattle.std.proofs.lemmas.List.Sums.{sum_by-cons, count_by-le-length}
@@ -131,10 +131,13 @@ but_there p at k other = sym (ap (λ (t : Bool). p k && not t) (ne_eqb k at othe
 
 -- no more places pass than there are numbers
 pub apart_few : (p : ℕ → Bool) (f : ℕ → ℕ) (n m : ℕ) → GivesApart p f n m → count_below p n ≤ m
-apart_few p f n zero gives = omega (arith, none_pass p n (λ k h. elim (cases_Bool (p k)) [
-  | inl passes ↦ absurd (omega (arith, gives.within k h passes))
-  | inr fails ↦ fails
-]))
+apart_few p f n zero gives = omega (
+  arith,
+  none_pass p n (λ k h. elim (cases_Bool (p k)) [
+    | inl passes ↦ absurd (omega (arith, gives.within k h passes))
+    | inr fails ↦ fails
+  ]),
+)
 apart_few p f n (suc m) gives = elim (find_passing (λ k. p k && f k == m) n) [
   | inl found ↦ (
       let at : ℕ = found.0 in

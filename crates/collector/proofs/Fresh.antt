@@ -1,41 +1,36 @@
 -- What every put of a fresh record keeps, whatever its outcome: sound cells, pad cells, and that each valid header stood in its slot
 -- before or was drawn.
-use Rattle.std.proofs.Common.{◌≡◌, ◌≢◌, ◌⊎◌, inl, inr, ℕ, ◌+◌, ◌*◌, ◌^◌, ◌<◌, ◌≤◌, Bool, true, false, List, length, ◌==◌, Option, Some, None, refl, sym, ap, ◌∙◌, arith, subst}
+use Rattle.std.proofs.Common.{◌≡◌, ◌≢◌, ◌⊎◌, inl, inr, ℕ, ◌+◌, ◌^◌, ◌<◌, ◌≤◌, true, false, List, Option, Some, sym, ap, ◌∙◌, arith, subst}
 use Rattle.std.proofs.lemmas.Bool.{cases_eq, cases_lt, cases_Bool, eqb-true, false≢true}
 use Rattle.zero_count.specs.declared.Header.{Header}
 use Rattle.zero_count.specs.HeaderWord.{IsHeader}
-use Rattle.cell_die.specs.declared.shape.Shape.{Shape}
 use Rattle.cell_die.specs.DieState.{DieState, IsShaped}
 use Rattle.cell_die.specs.Pads.{NoPadCharged}
 use Rattle.cell_die.specs.Changes.{SameCells}
 use Rattle.cell_die.specs.Counts.{Stayed}
 use Rattle.cell_die.specs.Calls.{Kept}
-use Rattle.cell_die.proofs.Sequences.{kept_refl, kept_trans}
+use Rattle.cell_die.proofs.Sequences.{kept_trans}
 use Rattle.spare_gate.specs.Slots.{is_gate_charged}
 use Rattle.sector_map.specs.declared.entry.Entry.{Entry}
 use Rattle.block_state.specs.declared.state.State.{State}
 use Rattle.block_state.specs.declared.state.State.TheVariants.{Clean, Active, Used, Recycled, Reused, Spare}
-use Rattle.block_state.specs.State.{is_active, is_spare}
+use Rattle.block_state.specs.State.{is_spare}
 use Rattle.block_state.specs.Book.{BookValue, state_at}
 use Rattle.page_codec.specs.declared.place.Place.{Place}
-use Rattle.page_codec.specs.Geometry.{Geometry, page_count, block_of, shape_of, spare_at}
-use Rattle.page_codec.specs.Records.{Placed, header_in, is_copy, live_record}
+use Rattle.page_codec.specs.Geometry.{Geometry, block_of, shape_of, spare_at}
+use Rattle.page_codec.specs.Records.{header_in, is_copy, live_record}
 use Rattle.page_codec.specs.Sound.{IsSound, live_count, stands_in}
 use Rattle.page_codec.specs.Puts.{Puts, first_slot}
-use Rattle.page_codec.specs.Promises.{HoldsRecord}
+use Rattle.page_codec.specs.Promises.{HoldsRecord, IsFresh}
 use Rattle.page_codec.specs.TrueBook.{IsTrue, IsTrueState, IsTrueActive, IsNextSeq}
 use Rattle.page_codec.proofs.PutLaws.{PutsCells, header_after, put_keeps_headers, put_keeps_seqs, put_keeps_bound, put_keeps_live, put_wins}
 use Rattle.page_codec.proofs.PutPads.{put_keeps_pads}
 use Rattle.page_codec.proofs.PutCells.{put_cells}
-use Rattle.collector.specs.Store.{Store, store, Holds, DrewSeqs, IsTrueStore}
+use Rattle.collector.specs.Store.{Store, Holds, IsTrueStore}
 use Rattle.collector.proofs.Blanks.{committed_header}
 use Rattle.collector.proofs.Books.{active_within, spare_within}
 use Rattle.collector.proofs.NextPage.{PutsNext, next_page, next_page_within, block_of_next, gate_before, holds_record}
 use Rattle.collector.proofs.Tables.{free_stays}
-
--- the header's seq is greater than that of every valid header
-abbrev pub IsFreshIn : Geometry → List (List ℕ) → Header → Type 0
-IsFreshIn g cells h = (place : Place) (k : Header) → header_in g cells place ≡ Some k → k.seq < h.seq
 
 -- a record that is no copy is put in a slot whose gate was not charged
 pub record PutsRecord (g : Geometry) (place : Place) (h : Header) (old new : List (List ℕ)) : Type 0 where
@@ -43,7 +38,7 @@ pub record PutsRecord (g : Geometry) (place : Place) (h : Header) (old new : Lis
   pub holds : HoldsRecord g place h
   pub single : is_copy h ≡ false
   pub gate : is_gate_charged (spare_at g old place.page) place.slot ≡ false
-  pub fresh : IsFreshIn g old h
+  pub fresh : IsFresh g old h
 
 -- the next seq is greater than that of every valid header, where it is not the greatest number
 pub fresh_seqs : (g : Geometry) (cells : List (List ℕ)) (seq : ℕ) → IsNextSeq g cells seq → seq < 2 ^ 62 → (place : Place) (k : Header) → header_in g cells place ≡ Some k → k.seq < seq
@@ -66,7 +61,7 @@ free_after g place h old new p block apart free = free_stays g old new block (λ
     at sector stands (inr uncharged) = put_keeps_live g place h old new p.put p.gate uncharged sector
 
 -- Sound cells stay sound, where some block has no live record afterwards.
-pub put_keeps_sound : (g : Geometry) (place : Place) (h : Header) (old new : List (List ℕ)) → PutsCells g place h old new → IsHeader h → IsFreshIn g old h → h.seq < 2 ^ 62 + 2 ^ 20
+pub put_keeps_sound : (g : Geometry) (place : Place) (h : Header) (old new : List (List ℕ)) → PutsCells g place h old new → IsHeader h → IsFresh g old h → h.seq < 2 ^ 62 + 2 ^ 20
     → (block : ℕ) × (block < g.blocks) × (live_count g new block ≡ 0) → IsSound g old → IsSound g new
 put_keeps_sound g place h old new p header fresh small free sound = record {
   below_valid = put_keeps_headers g place h old new p header sound.below_valid;
@@ -76,7 +71,7 @@ put_keeps_sound g place h old new p header fresh small free sound = record {
 }
 
 -- what a put of the seq that was drawn keeps
-pub put_holds : (g : Geometry) (place : Place) (h : Header) (old new : Store) → PutsCells g place h old.die.cells new.die.cells → IsHeader h → IsFreshIn g old.die.cells h → Kept old.die new.die
+pub put_holds : (g : Geometry) (place : Place) (h : Header) (old new : Store) → PutsCells g place h old.die.cells new.die.cells → IsHeader h → IsFresh g old.die.cells h → Kept old.die new.die
     → h.seq ≡ old.seq → new.seq ≡ old.seq + 1 → old.seq < 2 ^ 62 + 2 ^ 20 → (block : ℕ) × (block < g.blocks) × (live_count g new.die.cells block ≡ 0) → Holds g old new
 put_holds g place h old new p header fresh kept drawn next small free = record {
   kept = kept;
@@ -119,13 +114,12 @@ holds_after g old new mid kept same stayed rest = record {
 
 -- a put on the next page of the Active block, as a call leaves it
 pub next_put : {Content : (ℕ → List ℕ) → Type 0} (g : Geometry) (block fill : ℕ) (h : Header) (old new : DieState) (book : BookValue) (table : List (Option Entry)) (seq : ℕ)
-    → Puts Content 1 (first_slot (next_page g block fill)) h old new → old.shape ≡ shape_of g → new.shape ≡ old.shape → IsShaped old → IsShaped new → 0 < g.span
+    → Puts Content 1 (first_slot (next_page g block fill)) h old new → old.shape ≡ shape_of g → new.shape ≡ old.shape → IsShaped old → IsShaped new
     → IsTrue g old.cells book table seq → state_at book block ≡ Active fill → seq < 2 ^ 62 → h.seq ≡ seq → IsHeader h → h.sector < g.sectors → is_copy h ≡ false
     → PutsNext g block fill h old.cells new.cells
-next_put g block fill h old new book table seq p shape same shaped shaped_new spans t active small drawn header sector single = record {
+next_put g block fill h old new book table seq p shape same shaped shaped_new t active small drawn header sector single = record {
   block_in = within;
   slots = slots;
-  span = spans;
   active = is_active_block;
   header = header;
   sector = sector;
@@ -175,6 +169,9 @@ pub next_holds : (g : Geometry) (block fill : ℕ) (h : Header) (old new : Store
     → IsTrueStore g old → state_at old.book block ≡ Active fill → old.seq < 2 ^ 62 → h.seq ≡ old.seq → new.seq ≡ old.seq + 1 → Holds g old new
 next_holds g block fill h old new p kept t active small drawn next =
     let free = free_spare g old.die.cells old.book old.table old.seq block fill t active in
-    put_holds g (first_slot (next_page g block fill)) h old new p.put p.header p.fresh kept drawn next (omega arith)
-    (free.0, free.1, free_after g (first_slot (next_page g block fill)) h old.die.cells new.die.cells (next_record g block fill h old.die.cells new.die.cells p) free.0
-        (λ e. free.2 (sym e ∙ block_of_next g block fill p.active.room)) free.3)
+    put_holds g (first_slot (next_page g block fill)) h old new p.put p.header p.fresh kept drawn next (omega arith) (
+      free.0,
+      free.1,
+      free_after g (first_slot (next_page g block fill)) h old.die.cells new.die.cells (next_record g block fill h old.die.cells new.die.cells p) free.0
+          (λ e. free.2 (sym e ∙ block_of_next g block fill p.active.room)) free.3,
+    )

@@ -1,19 +1,19 @@
 -- A record that is no copy is put on the next page of the Active block. Up to its gate all live records and sectors stay; from
 -- its gate on it is the live record of its sector, and no other sector changes.
-use Rattle.std.proofs.Common.{◌≡◌, ◌≢◌, ◌⊎◌, inl, inr, ℕ, ◌+◌, ◌-◌, ◌*◌, ◌/◌, ◌%◌, ◌^◌, ◌<◌, ◌≤◌, Bool, true, false, List, ◌&&◌, ◌||◌, ◌==◌, nat_lt, if◌then◌else◌, Option, Some, None, refl, sym, ap, ap₂, ◌∙◌, arith, subst}
-use Rattle.std.proofs.lemmas.Bool.{cases_eq, cases_Bool, and_parts, or_cases, eqb-true, ltb-true, lt-ltb, eq-eqb, ne_eqb, false≢true}
+use Rattle.std.proofs.Common.{◌≡◌, ◌≢◌, ◌⊎◌, inl, inr, ℕ, ◌+◌, ◌*◌, ◌/◌, ◌%◌, ◌<◌, ◌≤◌, Bool, true, false, List, ◌&&◌, ◌||◌, ◌==◌, nat_lt, if◌then◌else◌, Some, None, sym, ap, ◌∙◌, arith, subst}
+use Rattle.std.proofs.lemmas.Bool.{cases_lt, cases_Bool, and_parts, or_cases, eqb-true, ltb-true, lt-ltb, eq-eqb, false≢true}
 use Rattle.std.proofs.lemmas.Nat.{div-mul-add, div-add-mod', mul-add-lt}
 use Rattle.std.proofs.lemmas.Option.{none-some}
-use native.Mathlib.Nat.{mul-le-mul_right, suc-mul, mul_comm}
+use native.Mathlib.Nat.{mul-le-mul_right, suc-mul, mul_comm, div-zero}
 use Rattle.zero_count.specs.declared.Header.{Header}
 use Rattle.zero_count.specs.HeaderWord.{IsHeader}
 use Rattle.cell_die.specs.Cells.{page_at, is_blank}
 use Rattle.striped.specs.Meaning.{Decoding}
-use Rattle.spare_gate.specs.Slots.{is_gate_charged, is_slot_blank}
+use Rattle.spare_gate.specs.Slots.{is_gate_charged}
 use Rattle.page_codec.specs.declared.place.Place.{Place}
 use Rattle.page_codec.specs.Geometry.{Geometry, page_count, block_of, units, unit_page, is_unit_page, spare_at}
-use Rattle.page_codec.specs.Records.{Placed, header_in, may_hold, is_copy, committed_in, live_record}
-use Rattle.page_codec.specs.Sectors.{said_by, stored}
+use Rattle.page_codec.specs.Records.{header_in, may_hold, is_copy, committed_in, live_record}
+use Rattle.page_codec.specs.Sectors.{stored}
 use Rattle.page_codec.specs.Gate.{GateWins}
 use Rattle.page_codec.specs.Puts.{first_slot}
 use Rattle.page_codec.specs.Promises.{HoldsRecord}
@@ -21,7 +21,7 @@ use Rattle.page_codec.specs.TrueBook.{IsTrueActive}
 use Rattle.page_codec.proofs.Live.{committed_holds, live_counts}
 use Rattle.page_codec.proofs.Changes.{ungated}
 use Rattle.page_codec.proofs.PutLaws.{PutsCells, put_keeps_live, put_wins}
-use Rattle.page_codec.proofs.PutStored.{NoneReads, StoresOne, pages_read, put_keeps_stored, put_stores}
+use Rattle.page_codec.proofs.PutStored.{NoneReads, StoresOne, put_keeps_stored, put_stores}
 use Rattle.collector.proofs.Blanks.{blank_page_slot, blank_page_gate, blank_slot_header, committed_header}
 
 -- the next page of an Active block
@@ -32,7 +32,6 @@ next_page g block fill = block * g.pages + fill
 pub record PutsNext (g : Geometry) (block fill : ℕ) (h : Header) (old new : List (List ℕ)) : Type 0 where
   pub block_in : block < g.blocks
   pub slots : 1 ≤ g.generations
-  pub span : 0 < g.span
   pub active : IsTrueActive g old block fill
   pub header : IsHeader h
   pub sector : h.sector < g.sectors
@@ -65,7 +64,7 @@ later_unit g place holds later = elim (or_cases _ _ (and_parts _ _ holds).1) [
 ]
 
 -- the unit that a page begins
-abbrev unit_at_page : Geometry → ℕ → ℕ
+abbrev pub unit_at_page : Geometry → ℕ → ℕ
 unit_at_page g page = page % g.pages / g.span
 
 pub unit_of_page : (g : Geometry) (page : ℕ) → is_unit_page g page ≡ true → (unit_at_page g page < units g) × (page ≡ unit_page g (block_of g page) (unit_at_page g page))
@@ -77,13 +76,23 @@ unit_of_page g page first =
     whole : (n r b u s : ℕ) → b + r ≡ n → u + s ≡ r → s ≡ 0 → n ≡ b + u
     whole n r b u s e f z = omega arith
 
+-- where a block has a unit, a unit has a page
+pub some_span : (g : Geometry) (u : ℕ) → u < units g → 0 < g.span
+some_span g u within = elim (cases_lt 0 g.span) [
+  | inl some ↦ some
+  | inr none ↦ (
+      let no_pages : g.span ≡ 0 = omega arith in
+      let no_units : units g ≡ 0 = ap (λ (n : ℕ). g.pages / n) no_pages ∙ div-zero g.pages in
+      absurd (omega (arith, within, no_units)))
+]
+
 -- the pages of a unit stand in one block
-pub unit_block : (g : Geometry) (page i : ℕ) → 0 < g.span → is_unit_page g page ≡ true → i < g.span → block_of g (page + i) ≡ block_of g page
-unit_block g page i spans first within =
+pub unit_block : (g : Geometry) (page i : ℕ) → is_unit_page g page ≡ true → i < g.span → block_of g (page + i) ≡ block_of g page
+unit_block g page i first within =
     let parts = and_parts _ _ first in
     let even : page % g.pages % g.span ≡ 0 = eqb-true _ _ parts.0 in
     let below : page % g.pages / g.span < g.pages / g.span = ltb-true _ _ parts.1 in
-    ap (λ (n : ℕ). n / g.pages) (whole page i g.pages) ∙ div-mul-add (page / g.pages) g.pages (page % g.pages + i) (room (page % g.pages) g.pages g.span i spans even below within)
+    ap (λ (n : ℕ). n / g.pages) (whole page i g.pages) ∙ div-mul-add (page / g.pages) g.pages (page % g.pages + i) (room (page % g.pages) g.pages g.span i (omega arith) even below within)
   where
     whole : (n k w : ℕ) → n + k ≡ n / w * w + (n % w + k)
     whole n k w = omega (arith, div-add-mod' n w)
@@ -140,7 +149,7 @@ module _ (g : Geometry) (block fill : ℕ) (h : Header) (old new : List (List �
       missed same (inr later) =
           let inner : i < g.span = subst (λ (t : Bool). i < (if t then 1 else g.span)) later within in
           let u = later_unit g x.place (committed_holds g old x.place x.header (live_counts g old sector x e)) later in
-          let inside : block_of g x.place.page ≡ block = sym (unit_block g x.place.page i p.span u.1 inner) ∙ (ap (block_of g) same ∙ block_of_next g block fill p.active.room) in
+          let inside : block_of g x.place.page ≡ block = sym (unit_block g x.place.page i u.1 inner) ∙ (ap (block_of g) same ∙ block_of_next g block fill p.active.room) in
           let apart : x.place.slot ≢ 0 = λ zero_slot. false≢true (sym later ∙ eq-eqb x.place.slot 0 zero_slot) in
           no_later x.place x.header stands u.1 inside (omega (arith, apart)) u.0
 

@@ -1,5 +1,5 @@
 -- A block has room for one live record more where one of its slots holds no committed record.
-use Rattle.std.proofs.Common.{◌≡◌, ◌≢◌, inl, inr, ℕ, ◌+◌, ◌*◌, ◌/◌, ◌%◌, ◌<◌, ◌≤◌, Bool, true, false, List, Option, Some, None, ◌==◌, refl, sym, ap, ap₂, ◌∙◌, arith, subst}
+use Rattle.std.proofs.Common.{◌≡◌, inl, inr, ℕ, ◌+◌, ◌*◌, ◌%◌, ◌<◌, ◌≤◌, Bool, true, List, Option, Some, None, refl, sym, ap, ap₂, ◌∙◌, arith, subst}
 use Rattle.std.proofs.lemmas.Bool.{cases_lt, eqb-true, false≢true}
 use Rattle.std.proofs.lemmas.Option.{same_Some, none-some}
 use Rattle.std.proofs.lemmas.Nat.{mul-add-lt, same_from_place, mod_below, div-add-mod'}
@@ -11,7 +11,7 @@ use Rattle.page_codec.specs.Records.{Placed, may_hold, records_of, committed_in,
 use Rattle.page_codec.specs.Sound.{live_count, stands_in}
 use Rattle.page_codec.proofs.Live.{of_records, holds_within, committed_holds, live_counts}
 use Rattle.page_codec.proofs.Newest.{newest_some}
-use Rattle.collector.proofs.Counting.{GivesApart, apart_fewer}
+use Rattle.collector.proofs.Counting.{apart_fewer}
 
 -- a live record is of its sector
 pub live_sector : (g : Geometry) (cells : List (List ℕ)) (sector : ℕ) (x : Placed) → live_record g cells sector ≡ Some x → x.header.sector ≡ sector

@@ -1,5 +1,5 @@
 -- What a put of a record makes of the stored sectors, one row each.
-use Rattle.std.proofs.Common.{◌≡◌, ◌≢◌, ◌⊎◌, inl, inr, ℕ, ◌<◌, Bool, true, false, List, [], take, length, map, slice_set, slice_index_or, if◌then◌else◌, ◌==◌, Option, Some, None, refl, sym, ap, ◌∙◌, arith, get_or-set_same, get_or-set_other, length-set}
+use Rattle.std.proofs.Common.{◌≡◌, ◌≢◌, ◌⊎◌, inl, inr, ℕ, ◌<◌, true, false, List, [], take, length, map, slice_set, slice_index_or, if◌then◌else◌, ◌==◌, Some, sym, ap, ◌∙◌, arith, get_or-set_same, get_or-set_other, length-set}
 use Rattle.std.specs.List.{range_with_len}
 use Rattle.std.proofs.lemmas.Bool.{cases_eq}
 use Rattle.std.proofs.lemmas.List.{same_lists, get_or_default}
@@ -9,7 +9,7 @@ use Rattle.cell_die.specs.DieState.{DieState}
 use Rattle.striped.specs.Meaning.{Meaning, Decoding, Decodes, IsSector}
 use Rattle.page_codec.specs.declared.place.Place.{Place}
 use Rattle.page_codec.specs.Geometry.{Geometry, main_at, unit_at}
-use Rattle.page_codec.specs.Records.{Placed, live_record}
+use Rattle.page_codec.specs.Records.{live_record}
 use Rattle.page_codec.specs.Sectors.{said_by, says_zeros, zero_sector, stored}
 use Rattle.page_codec.specs.Puts.{Puts, FirstCarries, first_slot, is_gated}
 use Rattle.page_codec.proofs.PutStored.{StoresOne}

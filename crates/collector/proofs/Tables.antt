@@ -1,7 +1,7 @@
 -- After the gate of a record on the Active block's next page, the record effect makes the tables true again.
-use Rattle.std.proofs.Common.{◌≡◌, ◌≢◌, ◌⊎◌, inl, inr, ℕ, zero, suc, ◌+◌, ◌-◌, ◌*◌, ◌/◌, ◌%◌, ◌^◌, ◌<◌, ◌≤◌, Bool, true, false, cond, List, length, drop, map, slice_set, slice_index_or, ◌&&◌, ◌==◌, if◌then◌else◌, Option, Some, None, refl, sym, ap, ap₂, ◌∙◌, arith, subst, get_or-set_same, get_or-set_other, length-set}
+use Rattle.std.proofs.Common.{◌≡◌, ◌≢◌, ◌⊎◌, inl, inr, ℕ, zero, suc, ◌+◌, ◌*◌, ◌/◌, ◌<◌, ◌≤◌, Bool, true, false, List, length, drop, slice_set, slice_index_or, ◌&&◌, ◌==◌, if◌then◌else◌, Option, Some, None, refl, sym, ap, ap₂, ◌∙◌, arith, subst, get_or-set_same, get_or-set_other, length-set}
 use Rattle.std.specs.List.{range_with_len, list_all}
-use Rattle.std.proofs.lemmas.Bool.{cases_eq, cases_lt, cases_Bool, eqb-true, eq-eqb, ne_eqb, false≢true}
+use Rattle.std.proofs.lemmas.Bool.{cases_eq, cases_Bool, eqb-true, eq-eqb, ne_eqb}
 use Rattle.std.proofs.lemmas.List.{same_lists, get_or_default}
 use Rattle.std.proofs.lemmas.List.FromFn.{get_or-map-range_with_len, length-map-range_with_len}
 use Rattle.std.proofs.lemmas.Nat.{div-mul-add, div-add-mod', div_below}
@@ -12,25 +12,25 @@ use Rattle.spare_gate.specs.Slots.{is_slot_blank, with_header, with_record}
 use Rattle.spare_gate.proofs.Blank.{header_keeps_blank, gate_keeps_blank}
 use Rattle.sector_map.specs.declared.entry.Entry.{Entry}
 use Rattle.sector_map.specs.declared.entry.Entry.TheVariants.{Held, Zeros}
-use Rattle.sector_map.specs.Entry.{place_of, entry_at}
+use Rattle.sector_map.specs.Entry.{entry_at}
 use Rattle.block_state.specs.declared.state.State.{State}
 use Rattle.block_state.specs.declared.state.State.TheVariants.{Clean, Active, Used, Recycled, Reused, Spare}
 use Rattle.block_state.specs.State.{is_active, is_spare, InRange}
-use Rattle.block_state.specs.Book.{BookValue, IsValid, IsActive, HasOneSpare, state_at, live_at, with_state}
+use Rattle.block_state.specs.Book.{BookValue, IsValid, HasOneSpare, state_at, live_at, with_state}
 use Rattle.page_codec.specs.declared.place.Place.{Place}
-use Rattle.page_codec.specs.Geometry.{Geometry, page_count, block_of, units, unit_page, spare_at}
-use Rattle.page_codec.specs.Records.{Placed, header_in, committed_in, live_record}
+use Rattle.page_codec.specs.Geometry.{Geometry, block_of, units, unit_page, spare_at}
+use Rattle.page_codec.specs.Records.{Placed, may_hold, committed_in, live_record}
 use Rattle.page_codec.specs.Sectors.{says_zeros}
 use Rattle.page_codec.specs.Sound.{live_count, stands_in}
 use Rattle.page_codec.specs.Gate.{GateWins}
 use Rattle.page_codec.specs.Puts.{first_slot}
-use Rattle.page_codec.specs.TrueBook.{IsTrue, IsTrueState, IsTrueActive, IsTrueUsed, IsTrueRecycled, IsTrueSpare, IsNextSeq, HasSizes, UnitSlotBlank, BlankAbove, is_block_blank, entry_of, live_map}
+use Rattle.page_codec.specs.TrueBook.{IsTrue, IsTrueState, IsTrueActive, IsTrueUsed, UnitSlotBlank, BlankAbove, is_block_blank, entry_of, live_map}
 use Rattle.page_codec.proofs.PutLaws.{header_after}
-use Rattle.collector.specs.Effects.{former_in, recorded, filled, fill_of, after_record, block_in, MayDrop}
-use Rattle.collector.proofs.Counting.{count_below, one_if, count_moves, none_pass, none_passes, one_passes}
+use Rattle.collector.specs.Effects.{former_in, recorded, filled, fill_of, MayDrop}
+use Rattle.collector.proofs.Counting.{one_if, count_moves, none_pass, none_passes, one_passes}
 use Rattle.collector.proofs.Books.{SameStates, state_here, state_there, active_within, valid_state, spare_stays, recorded_states, valid_recorded, one_at, one_in, recorded_live}
 use Rattle.collector.proofs.Room.{live_within, has_room}
-use Rattle.collector.proofs.NextPage.{PutsNext, next_page, next_gate, next_page_within, block_of_next, may_hold_next, none_committed, wins_from_gate}
+use Rattle.collector.proofs.NextPage.{PutsNext, next_page, next_gate, block_of_next, may_hold_next, none_committed, wins_from_gate, some_span}
 
 -- ---- the map
 
@@ -84,7 +84,6 @@ former_some g v x pages = at (says_zeros x.header)
 -- the pages of a block stay, and no live record comes to it
 pub record BlockStays (g : Geometry) (old new : List (List ℕ)) (block : ℕ) : Type 0 where
   pub some_pages : 0 < g.pages
-  pub some_span : 0 < g.span
   pub pages : (i : ℕ) → i < g.pages → page_at new (block * g.pages + i) ≡ page_at old (block * g.pages + i)
   pub live : (sector : ℕ) → sector < g.sectors → stands_in g block (live_record g new sector) ≡ true → live_record g new sector ≡ live_record g old sector
 
@@ -95,15 +94,15 @@ all_same p q a (suc n) f = ap₂ (λ (s t : Bool). s && t)
     (all_same p q (a + 1) n (λ i h. subst (λ (z : ℕ). p z ≡ q z) (omega arith) (f (suc i) (omega arith))))
 
 -- the first page of a unit is one of the block's
-pub unit_inside : (g : Geometry) (u : ℕ) → 0 < g.span → u < units g → u * g.span < g.pages
-unit_inside g u some within = room u g.pages g.span some within
+pub unit_inside : (g : Geometry) (u : ℕ) → u < units g → u * g.span < g.pages
+unit_inside g u within = room u g.pages g.span (some_span g u within) within
   where
     room : (u w s : ℕ) → 0 < s → u < w / s → u * s < w
     room u w s some below = omega (arith, div-add-mod' w s, mul-le-mul_right s below, suc-mul u s)
 
 pub unit_slot_stays : (g : Geometry) (old new : List (List ℕ)) (block u slot : ℕ) → BlockStays g old new block → u < units g → UnitSlotBlank g old block u slot → UnitSlotBlank g new block u slot
 unit_slot_stays g old new block u slot s within blank =
-    ap (λ (row : List ℕ). is_slot_blank (drop g.main_bytes row) slot) (s.pages (u * g.span) (unit_inside g u s.some_span within)) ∙ blank
+    ap (λ (row : List ℕ). is_slot_blank (drop g.main_bytes row) slot) (s.pages (u * g.span) (unit_inside g u within)) ∙ blank
 
 pub above_stays : (g : Geometry) (old new : List (List ℕ)) (block level : ℕ) → BlockStays g old new block → BlankAbove g old block level → BlankAbove g new block level
 above_stays g old new block level s above u slot within low high = unit_slot_stays g old new block u slot s within (above u slot within low high)
@@ -183,6 +182,35 @@ some_live g cells sector x within e =
     one_passes (λ s. stands_in g (block_of g x.place.page) (live_record g cells s)) g.sectors sector within
     (ap (stands_in g (block_of g x.place.page)) e ∙ eq-eqb (block_of g x.place.page) (block_of g x.place.page) refl)
 
+-- ---- what the record effect asks of true tables
+
+module _ (g : Geometry) (cells : List (List ℕ)) (book : BookValue) (table : List (Option Entry)) (seq : ℕ) (t : IsTrue g cells book table seq) where
+  pub some_slots : 1 ≤ g.generations
+  some_slots = omega (arith, t.kept.two_generations, t.sizes.generations)
+
+  -- the map's entry of a sector is that of its live record
+  pub entry_true : (sector : ℕ) → sector < g.sectors → entry_at table sector ≡ entry_of (live_record g cells sector)
+  entry_true sector within = ap (λ (map : List (Option Entry)). entry_at map sector) t.entries ∙ entry_live g cells sector within
+
+  -- a block takes one live record more where one of its slots holds no committed record
+  pub room_true : (place : Place) (block : ℕ) → block_of g place.page ≡ block → block < g.blocks → may_hold g place ≡ true → committed_in g cells place ≡ None → live_at book block < book.generations * book.pages
+  room_true place block inside within may none =
+      let count : live_at book block ≡ live_count g cells block = t.live_counts block within in
+      let room : live_count g cells block < g.generations * g.pages = subst (λ (b : ℕ). live_count g cells b < g.generations * g.pages) inside (has_room g cells place some_slots may none) in
+      subst (λ (n : ℕ). live_at book block < n) (ap₂ (λ (a b : ℕ). a * b) (sym t.sizes.generations) (sym t.sizes.pages)) (subst (λ (n : ℕ). n < g.generations * g.pages) (sym count) room)
+
+  -- the block of a sector's former live record has one
+  pub former_true : (sector : ℕ) → sector < g.sectors → 0 < g.pages → MayDrop book (former_in book (entry_at table sector))
+  former_true sector below pages = subst (λ (o : Option Entry). MayDrop book (former_in book o)) (sym (entry_true sector below)) (at (live_record g cells sector) refl)
+    where
+      at : (o : Option Placed) → live_record g cells sector ≡ o → MayDrop book (former_in book (entry_of o))
+      at None e = tt
+      at (Some x) e =
+          let within : block_of g x.place.page < g.blocks = div_below x.place.page g.pages g.blocks pages (live_within g cells sector x some_slots e).0 in
+          let some : 0 < live_count g cells (block_of g x.place.page) = some_live g cells sector x below e in
+          let count : live_at book (block_of g x.place.page) ≡ live_count g cells (block_of g x.place.page) = t.live_counts (block_of g x.place.page) within in
+          subst (MayDrop book) (sym (former_some g book x t.sizes.pages)) (omega (arith, t.sizes.blocks), omega arith)
+
 module _ (g : Geometry) (block fill : ℕ) (h : Header) (old new : List (List ℕ)) (p : PutsNext g block fill h old new) (charged : next_gate g block fill new ≡ true) where
   later_blank : (page slot : ℕ) → 0 < slot → is_slot_blank (spare_at g old page) slot ≡ true → is_slot_blank (spare_at g new page) slot ≡ true
   later_blank page slot low blank = elim (cases_eq page (next_page g block fill)) [
@@ -214,7 +242,6 @@ module _ (g : Geometry) (block fill : ℕ) (h : Header) (old new : List (List �
   pub others_stay : (b : ℕ) → b ≢ block → BlockStays g old new b
   others_stay b apart = record {
     some_pages = omega (arith, p.active.room);
-    some_span = p.span;
     pages = λ i within. p.only (b * g.pages + i) (λ e. apart (sym (div-mul-add b g.pages i within) ∙ (ap (block_of g) e ∙ block_of_next g block fill p.active.room)));
     live = λ sector within stands. at sector (cases_eq sector h.sector) stands;
   }
@@ -233,29 +260,17 @@ module _ (g : Geometry) (block fill : ℕ) (h : Header) (old new : List (List �
     placed = record { place = first_slot (next_page g block fill); header = h }
 
     former_entry : entry_at table h.sector ≡ entry_of (live_record g old h.sector)
-    former_entry = ap (λ (map : List (Option Entry)). entry_at map h.sector) t.entries ∙ entry_live g old h.sector p.sector
+    former_entry = entry_true g old book table seq t h.sector p.sector
 
-    pub block_within : block < length book.states
+    block_within : block < length book.states
     block_within = active_within book block fill active
 
-    pub live_room : live_at book block < book.generations * book.pages
-    live_room =
-        let count : live_at book block ≡ live_count g old block = t.live_counts block p.block_in in
-        let room : live_count g old block < g.generations * g.pages
-        = subst (λ (b : ℕ). live_count g old b < g.generations * g.pages) (block_of_next g block fill p.active.room)
-            (has_room g old (first_slot (next_page g block fill)) p.slots (may_hold_next g block fill p.block_in p.active.room) (none_committed g block fill h old new p)) in
-        subst (λ (n : ℕ). live_at book block < n) (ap₂ (λ (a b : ℕ). a * b) (sym t.sizes.generations) (sym t.sizes.pages)) (subst (λ (n : ℕ). n < g.generations * g.pages) (sym count) room)
+    room_within : live_at book block < book.generations * book.pages
+    room_within = room_true g old book table seq t (first_slot (next_page g block fill)) block (block_of_next g block fill p.active.room) p.block_in
+        (may_hold_next g block fill p.block_in p.active.room) (none_committed g block fill h old new p)
 
-    pub may_drop : MayDrop book former
-    may_drop = subst (λ (o : Option Entry). MayDrop book (former_in book o)) (sym former_entry) (at (live_record g old h.sector) refl)
-      where
-        at : (o : Option Placed) → live_record g old h.sector ≡ o → MayDrop book (former_in book (entry_of o))
-        at None e = tt
-        at (Some x) e =
-            let within : block_of g x.place.page < g.blocks = div_below x.place.page g.pages g.blocks (omega (arith, p.active.room)) (live_within g old h.sector x p.slots e).0 in
-            let some : 0 < live_count g old (block_of g x.place.page) = some_live g old h.sector x p.sector e in
-            let count : live_at book (block_of g x.place.page) ≡ live_count g old (block_of g x.place.page) = t.live_counts (block_of g x.place.page) within in
-            subst (MayDrop book) (sym (former_some g book x t.sizes.pages)) (omega (arith, t.sizes.blocks), omega arith)
+    may_drop : MayDrop book former
+    may_drop = former_true g old book table seq t h.sector p.sector (omega (arith, p.active.room))
 
     -- the book before the Active block fills
     abbrev counted : BookValue
@@ -292,7 +307,7 @@ module _ (g : Geometry) (block fill : ℕ) (h : Header) (old new : List (List �
         wins = wins_from_gate g block fill h old new p charged
 
     valid_after : IsValid effected
-    valid_after = valid_state counted block (next_state g.pages fill) (valid_recorded book block former t.kept block_within live_room may_drop) counted_within
+    valid_after = valid_state counted block (next_state g.pages fill) (valid_recorded book block former t.kept block_within room_within may_drop) counted_within
         (subst (λ (n : ℕ). InRange n counted.units counted.generations (next_state g.pages fill)) (sym (same.pages ∙ t.sizes.pages))
         (next_in_range g.pages counted.units counted.generations fill p.active.room (subst (λ (n : ℕ). 2 ≤ n) (sym same.generations) t.kept.two_generations)))
         (λ _ c c_active. t.kept.one_active c block (subst (λ (s : State). is_active s ≡ true) (counted_state c) c_active) (ap is_active active))

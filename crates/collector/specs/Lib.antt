@@ -1,4 +1,9 @@
 pub mod Effects
 pub mod Store
 pub mod Moves
+pub mod Named
+pub mod Again
 pub mod Collections
+pub mod Steps
+pub mod Settles
+pub mod Inside

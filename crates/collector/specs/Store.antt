@@ -1,5 +1,5 @@
 -- A die, and the tables that are kept of it.
-use Rattle.std.specs.Prelude.{◌≡◌, ◌⊎◌, ℕ, ◌≤◌, ◌<◌, ◌^◌, List, length, Option, Some}
+use Rattle.std.specs.Prelude.{◌≡◌, ◌⊎◌, ℕ, ◌≤◌, ◌<◌, List, Option, Some}
 use Rattle.zero_count.specs.declared.Header.{Header}
 use Rattle.cell_die.specs.declared.shape.Shape.{Shape}
 use Rattle.cell_die.specs.DieState.{DieState}

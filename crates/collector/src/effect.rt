@@ -9,7 +9,7 @@ use block_state::{Book, State};
 use sector_map::{Entry, Place2, SectorMap};
 
 /// The place that an entry names.
-fn place_named(entry: Entry) -> Place2
+pub(crate) fn place_named(entry: Entry) -> Place2
     ensures { result ≡ place_of entry }
 {
     match entry {

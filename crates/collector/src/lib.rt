@@ -3,8 +3,19 @@
 //! It knows the rules of collections and of idle moves, and nothing of offers or of whole commands.
 #![tactic(auto)]
 
+mod again;
+mod blank;
+mod collection;
+mod copy;
 mod effect;
 mod idle;
+mod live;
+mod moves;
+mod scan;
+mod seal;
+mod settle;
 
+pub use collection::collect;
 pub use effect::record_effect;
 pub use idle::move_one;
+pub use moves::Moves;

@@ -1,9 +1,8 @@
 -- The fill of the Active block is below its pages, and no other block is Active.
-use Rattle.std.proofs.Common.{◌≡◌, ◌<◌, ◌≤◌, ℕ, true, sym, ap, ◌∙◌, subst, arith}
-use Rattle.block_state.specs.declared.state.State.{State}
+use Rattle.std.proofs.Common.{◌≡◌, ◌<◌, ℕ, ap, subst, arith}
 use Rattle.block_state.specs.declared.state.State.TheVariants.{Active}
 use Rattle.block_state.specs.State.{is_active, InRange}
-use Rattle.block_state.specs.Book.{BookValue, IsValid, IsActive, state_at}
+use Rattle.block_state.specs.Book.{BookValue, IsValid, state_at}
 use Rattle.collector.proofs.effect.fill_page.Goals as goal
 
 few_filled : (v : BookValue) (block fill : ℕ) → IsValid v → state_at v block ≡ Active fill → fill < 128

@@ -1,0 +1,142 @@
+//! Collections: all live records of a victim are copied into the Spare, and count at once from the seal of it on. The order is
+//! erase, copies and seal, so that a cut leaves the sectors as they were up to the seal, and as they were from it on.
+ghost use Rattle.std.specs.Prelude.{◌≡◌, ◌+◌, ◌*◌, ◌<◌, ◌≤◌, ◌^◌, ℕ, length, IfOk, Err};
+ghost use Rattle.block_state.specs.Book.{live_at};
+ghost use Rattle.page_alloc.specs.CleanPage.{IsCollectBranch};
+ghost use Rattle.page_codec.specs.Sizes.{Serves, ServesScheme};
+ghost use Rattle.page_codec.specs.TrueBook.{IsTrue};
+ghost use Rattle.collector.specs.Store.{geometry_of, store, Holds};
+ghost use Rattle.collector.specs.Collections.{Collected, CollectReadFailed, CollectChangeFailed};
+ghost use Rattle.collector.specs.Inside.{Begun, CollectEnds};
+
+use crate::blank::blank_spare;
+use crate::moves::{Move, Moves};
+use crate::scan::copy_block;
+use crate::seal::charge_seal;
+use crate::settle::settle;
+use block_state::Book;
+use cell_die::{Die, DieFault};
+use page_codec::{PutFault, Work};
+use sector_map::SectorMap;
+use striped::Scheme;
+
+/// Copies the live records of the victim into the Spare, which is blank, and charges its seal.
+fn copy_sealed<D: Die, C: Scheme>(
+    die: &mut D,
+    scheme: &mut C,
+    work: &mut Work,
+    map: &mut SectorMap,
+    book: &mut Book,
+    moves: &mut [Move],
+    seq: &mut u64,
+    victim: u32,
+    spare: u32,
+) -> Result<u32, PutFault>
+    requires die { Serves work.old (D.state die.old).shape }
+    requires scheme { ServesScheme work.old (C.meaning scheme.old) }
+    requires small_sector { (C.meaning scheme.old).sector_bytes ≤ 512 }
+    requires small_page { (C.meaning scheme.old).page_bytes ≤ 1200 }
+    requires begun { Begun (geometry_of (D.state die.old).shape (C.meaning scheme.old) (length map.old)) victim spare (store (D.state die.old) map.old book.old seq.old) }
+    requires some_live { 0 < live_at book.old victim }
+    requires room { (D.state die.old).shape.pages ≤ length moves.old }
+    ensures holds { Holds (geometry_of (D.state die.old).shape (C.meaning scheme.old) (length map.old))
+        (store (D.state die.old) map.old book.old seq.old) (store (D.state die.new) map.new book.new seq.new) }
+    ensures ends { CollectEnds (geometry_of (D.state die.old).shape (C.meaning scheme.old) (length map.old)) (C.meaning scheme.old).decoding victim spare
+        (store (D.state die.old) map.old book.old seq.old) (store (D.state die.new) map.new book.new seq.new) result }
+    ensures same_scheme { C.meaning scheme.new ≡ C.meaning scheme.old }
+    ensures same_work { work.new ≡ work.old }
+{
+    let copies = match copy_block(die, scheme, work, map, book, moves, seq, victim, spare) {
+        Ok(copies) => copies,
+        Err(fault) => return Err(fault),
+    };
+    let first = spare * book.pages();
+    match charge_seal(die, first) {
+        Ok(()) => {
+            settle(map, book, &moves[..copies as usize], victim, spare);
+            Ok(copies)
+        }
+        Err(DieFault) => Err(PutFault::Change),
+    }
+}
+
+/// Collects the victim into the Spare.
+fn collect_into<D: Die, C: Scheme>(
+    die: &mut D,
+    scheme: &mut C,
+    work: &mut Work,
+    map: &mut SectorMap,
+    book: &mut Book,
+    moves: &mut [Move],
+    seq: &mut u64,
+    victim: u32,
+    spare: u32,
+) -> Result<u32, PutFault>
+    requires die { Serves work.old (D.state die.old).shape }
+    requires scheme { ServesScheme work.old (C.meaning scheme.old) }
+    requires small_sector { (C.meaning scheme.old).sector_bytes ≤ 512 }
+    requires small_page { (C.meaning scheme.old).page_bytes ≤ 1200 }
+    requires tables { IsTrue (geometry_of (D.state die.old).shape (C.meaning scheme.old) (length map.old)) (D.state die.old).cells book.old map.old seq.old }
+    requires fresh { seq.old < 2 ^ 62 }
+    requires branch { IsCollectBranch book.old victim spare }
+    requires few { live_at book.old victim < book.old.pages }
+    requires room { book.old.pages ≤ length moves.old }
+    ensures holds { Holds (geometry_of (D.state die.old).shape (C.meaning scheme.old) (length map.old))
+        (store (D.state die.old) map.old book.old seq.old) (store (D.state die.new) map.new book.new seq.new) }
+    ensures ends { CollectEnds (geometry_of (D.state die.old).shape (C.meaning scheme.old) (length map.old)) (C.meaning scheme.old).decoding victim spare
+        (store (D.state die.old) map.old book.old seq.old) (store (D.state die.new) map.new book.new seq.new) result }
+    ensures same_scheme { C.meaning scheme.new ≡ C.meaning scheme.old }
+    ensures same_work { work.new ≡ work.old }
+{
+    match blank_spare(die, book, spare) {
+        Ok(()) => copy_sealed(
+            die, scheme, work, map, book, moves, seq, victim, spare,
+        ),
+        Err(DieFault) => Err(PutFault::Change),
+    }
+}
+
+/// Collects the victim: its live records stand afterwards on the first pages of the Spare, which is the Active block, and the
+/// victim is the Spare. It answers how many records were moved. It takes no memory.
+///
+/// After `PutFault::Read` all sectors and live records are as before, and the seqs of the copies made so far are used up. After
+/// `PutFault::Change` all sectors are as before where the cells were sound.
+pub fn collect<D: Die, C: Scheme>(
+    die: &mut D,
+    scheme: &mut C,
+    work: &mut Work,
+    map: &mut SectorMap,
+    book: &mut Book,
+    moves: &mut Moves,
+    seq: &mut u64,
+) -> Result<u32, PutFault>
+    requires die { Serves work.old (D.state die.old).shape }
+    requires scheme { ServesScheme work.old (C.meaning scheme.old) }
+    requires small_sector { (C.meaning scheme.old).sector_bytes ≤ 512 }
+    requires small_page { (C.meaning scheme.old).page_bytes ≤ 1200 }
+    requires tables { IsTrue (geometry_of (D.state die.old).shape (C.meaning scheme.old) (length map.old)) (D.state die.old).cells book.old map.old seq.old }
+    requires fresh { seq.old < 2 ^ 62 }
+    requires branch { (victim : ℕ) × (spare : ℕ) × IsCollectBranch book.old victim spare × (live_at book.old victim < book.old.pages) }
+    requires room { book.old.pages ≤ moves.old }
+    ensures holds { Holds (geometry_of (D.state die.old).shape (C.meaning scheme.old) (length map.old))
+        (store (D.state die.old) map.old book.old seq.old) (store (D.state die.new) map.new book.new seq.new) }
+    ensures collected { (victim spare : ℕ) → IsCollectBranch book.old victim spare → IfOk result (λ n. (n ≡ live_at book.old victim)
+        × Collected (geometry_of (D.state die.old).shape (C.meaning scheme.old) (length map.old)) (C.meaning scheme.old).decoding victim spare
+            (store (D.state die.old) map.old book.old seq.old) (store (D.state die.new) map.new book.new seq.new)) }
+    ensures read_failed { (victim spare : ℕ) → IsCollectBranch book.old victim spare → result ≡ Err PutFault.Read
+        → CollectReadFailed (geometry_of (D.state die.old).shape (C.meaning scheme.old) (length map.old)) (C.meaning scheme.old).decoding victim spare
+            (store (D.state die.old) map.old book.old seq.old) (store (D.state die.new) map.new book.new seq.new) }
+    ensures change_failed { (victim spare : ℕ) → IsCollectBranch book.old victim spare → result ≡ Err PutFault.Change
+        → CollectChangeFailed (geometry_of (D.state die.old).shape (C.meaning scheme.old) (length map.old)) (C.meaning scheme.old).decoding victim spare
+            (store (D.state die.old) map.old book.old seq.old) (store (D.state die.new) map.new book.new seq.new) }
+    ensures same_scheme { C.meaning scheme.new ≡ C.meaning scheme.old }
+    ensures same_work { work.new ≡ work.old }
+    ensures same_room { moves.new ≡ moves.old }
+{
+    let Some(victim) = book.victim() else {
+        unreachable!()
+    };
+    let spare = book.spare();
+    let room = &mut moves.moves;
+    collect_into(die, scheme, work, map, book, room, seq, victim, spare)
+}
