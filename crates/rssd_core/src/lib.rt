@@ -3,11 +3,14 @@
 
 pub mod device;
 mod at_hand;
+mod collecting;
 mod ftl;
 mod idle;
+mod clean_page;
 mod over;
 pub mod mounting;
 mod page;
+mod placing;
 mod row;
 pub mod whole;
 

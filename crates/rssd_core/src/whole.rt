@@ -1,22 +1,40 @@
 //! The whole device: numbered sectors over a die with a scheme. Writes go over offered units or to clean pages, a wipe or a
 //! collection gets a clean page where none is at hand, and blocks whose records are gone offer their units.
 ghost use Rattle.std.specs.Prelude.{◌≡◌, ◌≢◌, ◌<◌, ◌≤◌, ◌↔◌, ◌^◌, true, false, length, slice_index_or, [], OnOk, OnErr, IfOk, IsErrOf, IfSome};
-ghost use Rattle.cell_die.specs.Counts.{sum_of};
+ghost use Rattle.cell_die.specs.Counts.{sum_of, count_sum};
 ghost use Rattle.cell_die.specs.Calls.{Passed, ReadFailed};
 ghost use Rattle.cell_die.specs.Power.{told, with_cut, with_read_failure};
 ghost use Rattle.rssd_core.specs.DeviceValue.{DeviceValue, rows_of, with_die};
 ghost use Rattle.rssd_core.specs.Parts.{device_of};
-ghost use Rattle.rssd_core.specs.Outcomes.{Holds, OnlyDie};
+ghost use Rattle.rssd_core.specs.Outcomes.{Holds, OnlyDie, Wrote, WriteFault, firsts, seconds, declines};
 ghost use Rattle.rssd_core.specs.Within.{sector_reads};
 
-use crate::device::{Counts, FtlError};
+use crate::device::{Counts, FtlError, Placed};
+use crate::placing::place;
 use crate::row::get_row;
 use block_state::Book;
 use cell_die::{Die, DieFault, PowerDie, Torn};
-use page_codec::Work;
+use page_codec::{PutFault, Work};
+use reuse_pool::recycle_due;
 use sector_map::SectorMap;
 use std::marker::Model;
 use striped::Scheme;
+
+/// The tallies after a write that was placed so.
+fn counted(counts: Counts, placed: Placed) -> Counts
+    ensures first { result.first ≡ count_sum counts.first (firsts placed) }
+    ensures second { result.second ≡ count_sum counts.second (seconds placed) }
+    ensures declined { result.declined ≡ count_sum counts.declined (declines placed) }
+    ensures moved { result.moved ≡ counts.moved }
+{
+    let mut counts = counts;
+    match placed {
+        Placed::First => counts.first = counts.first.saturating_add(1),
+        Placed::Second => counts.second = counts.second.saturating_add(1),
+        Placed::Declined => counts.declined = counts.declined.saturating_add(1),
+    }
+    counts
+}
 
 /// A mounted device.
 #[derive(Drop)]
@@ -129,6 +147,56 @@ impl<D: Die + Drop, C: Scheme + Drop> Ftl<D, C> {
             Ok(()) => {}
         }
         Ok(())
+    }
+}
+
+impl<D: Die + Drop, C: Scheme + Drop> Ftl<D, C> {
+    /// Writes a sector, of `sector_bytes` bytes.
+    pub fn write(&mut self, sector: u32, bytes: &[u8]) -> Result<Placed, FtlError>
+        requires { length bytes.now ≡ (device_of D.state C.meaning self.old).numbers.geometry.sector_bytes }
+        ensures holds { Holds (device_of D.state C.meaning self.old).numbers (device_of D.state C.meaning self.old) (device_of D.state C.meaning self.new) }
+        ensures bad_sector { result ≡ Err FtlError.BadSector ↔ (device_of D.state C.meaning self.old).numbers.geometry.sectors ≤ sector }
+        ensures stopped { result ≡ Err FtlError.Stopped ↔ (sector < (device_of D.state C.meaning self.old).numbers.geometry.sectors) × ((device_of D.state C.meaning self.old).stopped ≡ true) }
+        ensures spent { result ≡ Err FtlError.Spent
+            ↔ (sector < (device_of D.state C.meaning self.old).numbers.geometry.sectors) × ((device_of D.state C.meaning self.old).stopped ≡ false) × (2 ^ 62 ≤ (device_of D.state C.meaning self.old).view.seq) }
+        ensures wrote { IfOk result (λ placed. Wrote (device_of D.state C.meaning self.old).numbers sector bytes.now placed (device_of D.state C.meaning self.old) (device_of D.state C.meaning self.new)) }
+        ensures fault { IsErrOf result FtlError.DieFault → WriteFault (device_of D.state C.meaning self.old).numbers sector bytes.now (device_of D.state C.meaning self.old) (device_of D.state C.meaning self.new) }
+        ensures refused { OnErr result (result ≢ Err FtlError.DieFault → device_of D.state C.meaning self.new ≡ device_of D.state C.meaning self.old) }
+    {
+        if sector >= self.map.sectors() {
+            return Err(FtlError::BadSector);
+        }
+        if self.stopped {
+            return Err(FtlError::Stopped);
+        }
+        if self.seq >= 1 << 62 {
+            return Err(FtlError::Spent);
+        }
+        match place(
+            &mut self.die,
+            &mut self.scheme,
+            &mut self.work,
+            &mut self.map,
+            &mut self.book,
+            &mut self.seq,
+            &mut self.counts.moved,
+            sector,
+            bytes,
+        ) {
+            Ok(placed) => {
+                recycle_due(&mut self.book, self.reuse_max);
+                self.counts = counted(self.counts, placed);
+                Ok(placed)
+            }
+            Err(PutFault::Read) => {
+                recycle_due(&mut self.book, self.reuse_max);
+                Err(FtlError::DieFault)
+            }
+            Err(PutFault::Change) => {
+                self.stopped = true;
+                Err(FtlError::DieFault)
+            }
+        }
     }
 }
 
