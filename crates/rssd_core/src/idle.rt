@@ -17,13 +17,15 @@ use reuse_pool::recycle_due;
 use sector_map::SectorMap;
 use striped::Scheme;
 
-/// The record numbers from here on are drawn by no call.
+/// No move begins with a next record number from here on.
 const SPENT: u64 = 1 << 62;
 
 /// How many records were moved, and what ended the moves where a call of the die failed.
 #[derive(Clone, Copy, Debug, PartialEq, Eq)]
 pub(crate) struct Moves {
+    /// The finished moves.
     pub count: u32,
+    /// The call of the die that failed in the move after them.
     pub fault: Option<PutFault>,
 }
 
