@@ -27,8 +27,8 @@ use Rattle.page_codec.proofs.PutCells.{put_cells}
 use Rattle.collector.specs.Effects.{after_record, filled, recorded, former_in, block_in, MayDrop}
 use Rattle.collector.specs.Store.{Store, store, Holds, IsTrueStore, SameRows}
 use Rattle.collector.proofs.Books.{active_within}
-use Rattle.collector.proofs.NextPage.{PutsNext, next_page, next_page_within, next_gate, block_of_next, stored_before_gate, wins_from_gate, stores_from_gate}
-use Rattle.collector.proofs.Tables.{live_room, may_drop, effect_true}
+use Rattle.collector.proofs.NextPage.{PutsNext, next_page, next_page_within, next_gate, block_of_next, may_hold_next, none_committed, stored_before_gate, wins_from_gate, stores_from_gate}
+use Rattle.collector.proofs.Tables.{room_true, former_true, effect_true}
 use Rattle.collector.proofs.Fresh.{put_holds, free_spare, free_after, next_record}
 use Rattle.collector.proofs.Rows.{rows_after}
 use Rattle.rssd_core.specs.Steps.{IsSized, SetsRow, PutNext, PutNextFailed, former_block}
@@ -71,7 +71,6 @@ at_hand {Content = Content} g d page h row old new sized p shape kept shaped sha
   next = record {
     block_in = within;
     slots = slots;
-    span = sized.span;
     active = is_active_block;
     header = header;
     sector = sector;
@@ -149,10 +148,11 @@ module _ (g : Geometry) (d : Decoding) (page : ℕ) (h : Header) (row : List ℕ
 
     pub effect_room : live_at old.book (block_in old.book entry) < old.book.generations * old.book.pages
     effect_room = subst (λ (b : ℕ). live_at old.book b < old.book.generations * old.book.pages) (sym (effect_block entry at))
-        (live_room g p.block p.fill h old.die.cells new.cells p.next charged old.book old.table old.seq p.tables p.active p.drawn)
+        (room_true g old.die.cells old.book old.table old.seq p.tables (first_slot (next_page g p.block p.fill)) p.block (block_of_next g p.block p.fill p.next.active.room) p.next.block_in
+        (may_hold_next g p.block p.fill p.next.block_in p.next.active.room) (none_committed g p.block p.fill h old.die.cells new.cells p.next))
 
     pub effect_drops : MayDrop old.book (former_in old.book (entry_at old.table h.sector))
-    effect_drops = may_drop g p.block p.fill h old.die.cells new.cells p.next charged old.book old.table old.seq p.tables p.active p.drawn
+    effect_drops = former_true g old.die.cells old.book old.table old.seq p.tables h.sector p.next.sector p.sized.pages
 
     -- the put and its record effect
     pub put_next : Passed 2 0 old.die new → PutNext g d page h row old (store new (slice_set old.table h.sector (Some entry)) (after_record old.book (block_in old.book entry) (former_in old.book (entry_at old.table h.sector))) (old.seq + 1))

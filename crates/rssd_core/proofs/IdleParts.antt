@@ -54,15 +54,14 @@ ends_long d n k (Some Change) old new t e = ap (λ (s : Store). length s.table) 
     ∙ table_long d.geometry e.mid.die.cells e.mid.book e.mid.table e.mid.seq (run_tables d.geometry d.meaning.decoding k old e.mid e.run t)
 
 -- a device keeps what it keeps where its numbers and buffers stay, and the tables are true again
-kept_again : (old new : DeviceValue) (work work' : Sizes) (table table' : List (Option Entry)) → new.numbers ≡ old.numbers → new.view.die.shape ≡ old.view.die.shape → work' ≡ work → IsKept old work table
-    → (new.stopped ≡ false → IsTrueBook old.numbers.geometry old.numbers.reuse_max new.view.die.cells new.view.book table' new.view.seq) → IsKept new work' table'
-kept_again old new work work' table table' numbers shape sizes kept tables = record {
+kept_again : (old new : DeviceValue) (work work' : Sizes) (room : ℕ) (table table' : List (Option Entry)) → new.numbers ≡ old.numbers → new.view.die.shape ≡ old.view.die.shape → work' ≡ work → IsKept old work room table
+    → (new.stopped ≡ false → IsTrueBook old.numbers.geometry old.numbers.reuse_max new.view.die.cells new.view.book table' new.view.seq) → IsKept new work' room table'
+kept_again old new work work' room table table' numbers shape sizes kept tables = record {
   die = subst (λ (s : Shape). Serves work' s) (sym shape) (subst (λ (w : Sizes). Serves w old.view.die.shape) (sym sizes) kept.die);
   scheme = subst (λ (d : Numbers). ServesScheme work' d.meaning) (sym numbers) (subst (λ (w : Sizes). ServesScheme w old.numbers.meaning) (sym sizes) kept.scheme);
   sized = subst (λ (d : Numbers). IsSized d.geometry) (sym numbers) kept.sized;
-  some_units = subst (λ (d : Numbers). 0 < units d.geometry) (sym numbers) kept.some_units;
-  small_sector = subst (λ (d : Numbers). d.geometry.sector_bytes ≤ 512) (sym numbers) kept.small_sector;
   spare = subst (λ (d : Numbers). d.geometry.sectors < (d.geometry.blocks - 1) * d.geometry.pages) (sym numbers) kept.spare;
+  moves = subst (λ (d : Numbers). d.geometry.pages ≤ room) (sym numbers) kept.moves;
   tables = λ running. subst (λ (d : Numbers). IsTrueBook d.geometry d.reuse_max new.view.die.cells new.view.book table' new.view.seq) (sym numbers) (tables running);
 }
 
@@ -89,15 +88,15 @@ module _ {D C : Type 0} (state : D → DieState) (meaning : C → Meaning) where
   }
 
   -- the moves ended so, and their tally is kept
-  pub record Ran (p : Parts D C) (die : D) (scheme : C) (sizes : Sizes) (table : List (Option Entry)) (book : BookValue) (seq moved n k : ℕ) (fault : Option PutFault) : Type 0 where
-    pub kept : IsKept (device_of state meaning p) p.sizes p.table
+  pub record Ran (p : Parts D C) (die : D) (scheme : C) (sizes : Sizes) (table : List (Option Entry)) (book : BookValue) (seq moved n k room : ℕ) (fault : Option PutFault) : Type 0 where
+    pub kept : IsKept (device_of state meaning p) p.sizes room p.table
     pub running : p.stopped ≡ false
     pub same_scheme : meaning scheme ≡ meaning p.scheme
     pub same_sizes : sizes ≡ p.sizes
     pub ends : MovesEnd (geometry_in p) (meaning p.scheme).decoding n k fault (store_of p) (store (state die) table book seq)
     pub tally : moved ≡ count_sum p.counts.moved k
 
-  module _ (p : Parts D C) (die : D) (scheme : C) (sizes : Sizes) (table : List (Option Entry)) (book : BookValue) (seq moved n k : ℕ) where
+  module _ (p : Parts D C) (die : D) (scheme : C) (sizes : Sizes) (table : List (Option Entry)) (book : BookValue) (seq moved n k room : ℕ) where
     abbrev d : Numbers
     d = (device_of state meaning p).numbers
 
@@ -107,7 +106,7 @@ module _ {D C : Type 0} (state : D → DieState) (meaning : C → Meaning) where
     abbrev last : BookValue → Bool → DeviceValue
     last v stopped = device_of state meaning (moved_parts p die scheme sizes table v seq moved stopped)
 
-    module _ (fault : Option PutFault) (ran : Ran p die scheme sizes table book seq moved n k fault) where
+    module _ (fault : Option PutFault) (ran : Ran p die scheme sizes table book seq moved n k room fault) where
       tables_before : IsTrueStore (geometry_in p) (store_of p)
       tables_before = (ran.kept.tables ran.running).tables
 
@@ -130,21 +129,21 @@ module _ {D C : Type 0} (state : D → DieState) (meaning : C → Meaning) where
 
       -- where the tables are true and the recycling follows
       module _ (v : BookValue) (stopped : Bool) (running : stopped ≡ false) (t : IsTrueStore (geometry_in p) (store (state die) table book seq)) (recycles : Recycles p.reuse_max book v) where
-        kept_running : IsKept (last v stopped) sizes table
-        kept_running = kept_again (device_of state meaning p) (last v stopped) p.sizes sizes p.table table (numbers v stopped) holds.kept.shape ran.same_sizes ran.kept
-            (λ running. true_book_by_run (geometry_in p) (state die).cells table seq p.reuse_max book v ran.kept.some_units recycles t)
+        kept_running : IsKept (last v stopped) sizes room table
+        kept_running = kept_again (device_of state meaning p) (last v stopped) p.sizes sizes room p.table table (numbers v stopped) holds.kept.shape ran.same_sizes ran.kept
+            (λ running. true_book_by_run (geometry_in p) (state die).cells table seq p.reuse_max book v ran.kept.sized.some_units recycles t)
 
         holds_recycled : Holds (device_of state meaning p).numbers (device_of state meaning p) (last v stopped)
         holds_recycled = law_at (Holds (device_of state meaning p).numbers (device_of state meaning p)) v false stopped running
             (holds_running (device_of state meaning p).numbers (store_of p) (store (state die) table book seq) v p.counts.first p.counts.second p.counts.declined p.counts.moved
-            p.counts.first p.counts.second p.counts.declined (count_sum p.counts.moved k) p.stopped ran.kept.some_units holds t recycles)
+            p.counts.first p.counts.second p.counts.declined (count_sum p.counts.moved k) p.stopped ran.kept.sized.some_units holds t recycles)
 
     -- no call failed
-    module _ (ran : Ran p die scheme sizes table book seq moved n k None) (v : BookValue) (stopped : Bool) (running : stopped ≡ false) (recycles : Recycles p.reuse_max book v) where
+    module _ (ran : Ran p die scheme sizes table book seq moved n k room None) (v : BookValue) (stopped : Bool) (running : stopped ≡ false) (recycles : Recycles p.reuse_max book v) where
       tables_ended : IsTrueStore (geometry_in p) (store (state die) table book seq)
       tables_ended = run_tables (geometry_in p) (meaning p.scheme).decoding k (store_of p) (store (state die) table book seq) ran.ends.run (tables_before None ran)
 
-      pub ended_kept : IsKept (last v stopped) sizes table
+      pub ended_kept : IsKept (last v stopped) sizes room table
       ended_kept = kept_running None ran v stopped running tables_ended recycles
 
       pub ended_holds : Holds (device_of state meaning p).numbers (device_of state meaning p) (last v stopped)
@@ -155,11 +154,11 @@ module _ {D C : Type 0} (state : D → DieState) (meaning : C → Meaning) where
           (idled (device_of state meaning p).numbers n k (store_of p) (store (state die) table book seq) v p.counts.first p.counts.second p.counts.declined p.counts.moved p.stopped (tables_before None ran) ran.ends recycles)
 
     -- a read failed
-    module _ (ran : Ran p die scheme sizes table book seq moved n k (Some Read)) (v : BookValue) (stopped : Bool) (running : stopped ≡ false) (recycles : Recycles p.reuse_max book v) where
+    module _ (ran : Ran p die scheme sizes table book seq moved n k room (Some Read)) (v : BookValue) (stopped : Bool) (running : stopped ≡ false) (recycles : Recycles p.reuse_max book v) where
       tables_read : IsTrueStore (geometry_in p) (store (state die) table book seq)
       tables_read = read_tables (device_of state meaning p).numbers n k (store_of p) (store (state die) table book seq) (tables_before (Some Read) ran) ran.ends
 
-      pub read_kept : IsKept (last v stopped) sizes table
+      pub read_kept : IsKept (last v stopped) sizes room table
       read_kept = kept_running (Some Read) ran v stopped running tables_read recycles
 
       pub read_holds_parts : Holds (device_of state meaning p).numbers (device_of state meaning p) (last v stopped)
@@ -170,9 +169,9 @@ module _ {D C : Type 0} (state : D → DieState) (meaning : C → Meaning) where
           (idle_read_failed (device_of state meaning p).numbers n k (store_of p) (store (state die) table book seq) v p.counts.first p.counts.second p.counts.declined p.counts.moved p.stopped (tables_before (Some Read) ran) ran.ends recycles)
 
     -- a change call failed
-    module _ (ran : Ran p die scheme sizes table book seq moved n k (Some Change)) where
-      pub change_kept : IsKept (last book true) sizes table
-      change_kept = kept_again (device_of state meaning p) (last book true) p.sizes sizes p.table table (numbers (Some Change) ran book true) (holds (Some Change) ran).kept.shape ran.same_sizes ran.kept (λ e. absurd (false≢true (sym e)))
+    module _ (ran : Ran p die scheme sizes table book seq moved n k room (Some Change)) where
+      pub change_kept : IsKept (last book true) sizes room table
+      change_kept = kept_again (device_of state meaning p) (last book true) p.sizes sizes room p.table table (numbers (Some Change) ran book true) (holds (Some Change) ran).kept.shape ran.same_sizes ran.kept (λ e. absurd (false≢true (sym e)))
 
       pub change_holds : Holds (device_of state meaning p).numbers (device_of state meaning p) (last book true)
       change_holds = law_at (Some Change) ran (Holds (device_of state meaning p).numbers (device_of state meaning p)) book true true refl

@@ -34,17 +34,18 @@ pub numbers_same : {shape shape' : Shape} {meaning meaning' : Meaning} {n n' : �
 numbers_same r s m l = λ i. numbers_at (s i) (m i) (l i) r
 
 -- the invariant after a call
-pub kept_after : (die die' : DieState) (meaning meaning' : Meaning) (sizes sizes' : Sizes) (table table' : List (Option Entry)) (r : ℕ) (view view' : DeviceView) (stopped stopped' : Bool)
+pub kept_after : (die die' : DieState) (meaning meaning' : Meaning) (sizes sizes' : Sizes) (room room' : ℕ) (table table' : List (Option Entry)) (r : ℕ) (view view' : DeviceView) (stopped stopped' : Bool)
     → view.die ≡ die → view'.die ≡ die'
-    → IsKept (record { numbers = numbers_at die.shape meaning (length table) r; view = view; stopped = stopped }) sizes table
-    → die'.shape ≡ die.shape → meaning' ≡ meaning → length table' ≡ length table → sizes' ≡ sizes
+    → IsKept (record { numbers = numbers_at die.shape meaning (length table) r; view = view; stopped = stopped }) sizes room table
+    → die'.shape ≡ die.shape → meaning' ≡ meaning → length table' ≡ length table → sizes' ≡ sizes → room' ≡ room
     → (stopped' ≡ false → IsTrueBook (geometry_of die.shape meaning (length table)) r die'.cells view'.book table' view'.seq)
-    → IsKept (record { numbers = numbers_at die'.shape meaning' (length table') r; view = view'; stopped = stopped' }) sizes' table'
-kept_after die die' meaning meaning' sizes sizes' table table' r view view' stopped stopped' at at' k s m l w tables = record {
+    → IsKept (record { numbers = numbers_at die'.shape meaning' (length table') r; view = view'; stopped = stopped' }) sizes' room' table'
+kept_after die die' meaning meaning' sizes sizes' room room' table table' r view view' stopped stopped' at at' k s m l w q tables = record {
   die = subst (λ (x : DieState). Serves sizes' x.shape) (sym at') (subst (Serves sizes') (sym s) (subst (λ (z : Sizes). Serves z die.shape) (sym w) (subst (λ (x : DieState). Serves sizes x.shape) at k.die)));
   scheme = subst (ServesScheme sizes') (sym m) (subst (λ (z : Sizes). ServesScheme z meaning) (sym w) k.scheme);
   sized = subst IsSized (sym (geometry_same s m l)) k.sized;
   spare = subst (λ (g : Geometry). g.sectors < (g.blocks - 1) * g.pages) (sym (geometry_same s m l)) k.spare;
+  moves = subst (λ (g : Geometry). g.pages ≤ room') (sym (geometry_same s m l)) (subst (λ (n : ℕ). die.shape.pages ≤ n) (sym q) k.moves);
   tables = λ running. subst (λ (x : DieState). IsTrueBook (geometry_of die'.shape meaning' (length table')) r x.cells view'.book table' view'.seq) (sym at')
       (subst (λ (g : Geometry). IsTrueBook g r die'.cells view'.book table' view'.seq) (sym (geometry_same s m l)) (tables running));
 }

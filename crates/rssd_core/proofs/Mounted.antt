@@ -77,15 +77,16 @@ module _ (old new : DieState) (meaning : Meaning) (plan : Plan) (sizes : Sizes) 
     kept = reads.kept;
   }
 
-  pub device_kept : IsKept (fresh_device new meaning plan.reuse_max tables) sizes tables.map
-  device_kept =
+  pub device_kept : (room : ℕ) → room ≡ old.shape.pages → 0 < old.shape.pages / meaning.span → IsKept (fresh_device new meaning plan.reuse_max tables) sizes room tables.map
+  device_kept room moves some_units =
       let shape : new.shape ≡ old.shape = reads.kept.shape in
-      let sized : IsSized (numbers_of old.shape meaning plan).geometry = record { two_blocks = fits.two_blocks; pages = omega (arith, fits.two_pages); span = omega (arith, fits.served.some_span); two_slots = fits.served.two_generations } in
+      let sized : IsSized (numbers_of old.shape meaning plan).geometry = record { two_blocks = fits.two_blocks; pages = omega (arith, fits.two_pages); span = omega (arith, fits.served.some_span); some_units = some_units; two_slots = fits.served.two_generations; small_sector = fits.served.few_sector_bytes; small_page = subst (λ n. n ≤ 1200) (sym fits.main_bytes) fits.served.few_page_bytes } in
       record {
         die = subst (Serves sizes) (sym shape) (buffers_serve old.shape meaning plan sizes fits work);
         scheme = buffers_serve_scheme meaning sizes work;
         sized = subst IsSized (sym geometry_is) sized;
         spare = subst (λ (g : Geometry). g.sectors < (g.blocks - 1) * g.pages) (sym geometry_is) fits.few_sectors;
+        moves = subst (λ (g : Geometry). g.pages ≤ room) (sym geometry_is) (omega (arith, moves));
         tables = λ _. subst (λ (g : Geometry). IsTrueBook g plan.reuse_max new.cells tables.book tables.map tables.seq) (sym geometry_is) by_scheme.true_book;
       }
 

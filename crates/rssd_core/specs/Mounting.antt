@@ -34,10 +34,11 @@ sizes_of meaning = record {
   generations = meaning.generations;
 }
 
--- the buffers are of the scheme's sizes, and the tables new
+-- the buffers are of the scheme's sizes, the tables are new, and there is room for the moves of a block
 pub record HasRoom (shape : Shape) (meaning : Meaning) (sectors : ℕ) (room : Room) : Type 0 where
   pub work : room.work ≡ sizes_of meaning
   pub tables : IsNew shape sectors meaning.span meaning.generations room.tables
+  pub moves : room.moves ≡ shape.pages
 
 abbrev pub why_refused : ScanRefusal → MountError
 why_refused DieFault = errors.DieFault

@@ -38,6 +38,8 @@ pub record IsSized (g : Geometry) : Type 0 where
   pub span : 0 < g.span
   pub some_units : 0 < units g
   pub two_slots : 2 ≤ g.generations
+  pub small_sector : g.sector_bytes ≤ 512
+  pub small_page : g.main_bytes ≤ 1200
 
 -- the row of a sector is set
 abbrev pub SetsRow : Geometry → Decoding → ℕ → List ℕ → Store → Store → Type 0

@@ -1,6 +1,6 @@
 //! A page for the next record: the Active block's next one, else that of a Clean block that is taken, of a victim that is wiped,
 //! or of the Spare that a victim is collected into.
-ghost use Rattle.std.specs.Prelude.{◌≡◌, ◌-◌, ◌*◌, ◌^◌, ◌<◌, length, min, Ok, Err};
+ghost use Rattle.std.specs.Prelude.{◌≡◌, ◌-◌, ◌*◌, ◌^◌, ◌<◌, ◌≤◌, length};
 ghost use Rattle.page_codec.specs.Sizes.{Serves, ServesScheme};
 ghost use Rattle.page_codec.specs.TrueBook.{IsTrue};
 ghost use Rattle.collector.specs.Store.{geometry_of, store, Holds};
@@ -11,6 +11,7 @@ ghost use Rattle.rssd_core.specs.Placing.{OpenEnds};
 
 use crate::collecting::collect_page;
 use block_state::{Book, State};
+use collector::Moves;
 use cell_die::{Die, DieFault};
 use page_alloc::{NextPage, next};
 use page_codec::{PutFault, Work};
@@ -42,6 +43,7 @@ pub fn open_page<D: Die, C: Scheme>(
     map: &mut SectorMap,
     book: &mut Book,
     seq: &mut u64,
+    moves: &mut Moves,
     moved: &mut u64,
 ) -> Result<u32, PutFault>
     requires die { Serves work.old (D.state die.old).shape }
@@ -51,6 +53,7 @@ pub fn open_page<D: Die, C: Scheme>(
     requires tables { IsTrue (geometry_of (D.state die.old).shape (C.meaning scheme.old) (length map.old)) (D.state die.old).cells book.old map.old seq.old }
     requires fresh { seq.old < 2 ^ 62 }
     requires tally { moved.old < 2 ^ 64 }
+    requires room { (D.state die.old).shape.pages ≤ moves.old }
     ensures holds { Holds (geometry_of (D.state die.old).shape (C.meaning scheme.old) (length map.old))
         (store (D.state die.old) map.old book.old seq.old)
         (store (D.state die.new) map.new book.new seq.new) }
@@ -60,6 +63,7 @@ pub fn open_page<D: Die, C: Scheme>(
     ensures same_scheme { C.meaning scheme.new ≡ C.meaning scheme.old }
     ensures same_work { work.new ≡ work.old }
     ensures same_sectors { length map.new ≡ length map.old }
+    ensures same_room { moves.new ≡ moves.old }
 {
     match next(book) {
         NextPage::Page(page) => Ok(page),
@@ -69,7 +73,7 @@ pub fn open_page<D: Die, C: Scheme>(
             Err(DieFault) => Err(PutFault::Change),
         },
         NextPage::Collect { victim, spare } => {
-            collect_page(die, scheme, work, map, book, seq, moved, victim, spare)
+            collect_page(die, scheme, work, map, book, seq, moves, moved, victim, spare)
         }
     }
 }

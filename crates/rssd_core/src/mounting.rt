@@ -8,6 +8,7 @@ ghost use Rattle.rssd_core.specs.Mounting.{HasRoom, HasDieLimits, HasPlanLimits,
 use crate::device::{Counts, MountError, Plan, Refused};
 use crate::whole::Ftl;
 use cell_die::{Die, Shape};
+use collector::Moves;
 use mount_scan::{ScanRefusal, Tables, scan_all};
 use page_codec::Work;
 use std::alloc::{AllocError, Global};
@@ -21,11 +22,12 @@ const NO_COUNTS: Counts = Counts {
     moved: 0,
 };
 
-/// All memory of a device: the buffers of puts and gets, and the tables.
+/// All memory of a device: the buffers of puts and gets, the tables, and room for the moves of a collection.
 #[derive(Drop)]
 struct Room {
     work: Work,
     tables: Tables,
+    moves: Moves,
 }
 
 /// Whether the sizes of a scheme are served.
@@ -100,6 +102,7 @@ fn take_room<C: Scheme>(
             scheme.span(),
             scheme.generations(),
         )?,
+        moves: Moves::new(alloc, shape.pages)?,
     })
 }
 
@@ -135,6 +138,7 @@ fn mount_in<D: Die + Drop, C: Scheme + Drop>(
             map: room.tables.map,
             book: room.tables.book,
             seq: room.tables.seq,
+            moves: room.moves,
             reuse_max: plan.reuse_max,
             counts: NO_COUNTS,
             stopped: false,

@@ -1,5 +1,5 @@
 //! Where a write goes: over the offered unit, or to a clean page where none is offered or the offered one declines.
-ghost use Rattle.std.specs.Prelude.{◌≡◌, ◌-◌, ◌*◌, ◌^◌, ◌<◌, length, min, Ok, Err};
+ghost use Rattle.std.specs.Prelude.{◌≡◌, ◌-◌, ◌*◌, ◌^◌, ◌<◌, ◌≤◌, length};
 ghost use Rattle.page_codec.specs.Sizes.{Serves, ServesScheme};
 ghost use Rattle.page_codec.specs.TrueBook.{IsTrue};
 ghost use Rattle.collector.specs.Store.{geometry_of, store, Holds};
@@ -11,6 +11,7 @@ use crate::device::Placed;
 use crate::clean_page::open_page;
 use crate::over::put_over;
 use block_state::Book;
+use collector::Moves;
 use cell_die::{Die, DieFault};
 use page_codec::{PutFault, Work};
 use reuse_pool::offer;
@@ -26,6 +27,7 @@ pub fn put_clean<D: Die, C: Scheme>(
     map: &mut SectorMap,
     book: &mut Book,
     seq: &mut u64,
+    moves: &mut Moves,
     moved: &mut u64,
     sector: u32,
     bytes: &[u8],
@@ -37,6 +39,7 @@ pub fn put_clean<D: Die, C: Scheme>(
     requires tables { IsTrue (geometry_of (D.state die.old).shape (C.meaning scheme.old) (length map.old)) (D.state die.old).cells book.old map.old seq.old }
     requires fresh { seq.old < 2 ^ 62 }
     requires tally { moved.old < 2 ^ 64 }
+    requires room { (D.state die.old).shape.pages ≤ moves.old }
     requires sector { sector < length map.old }
     requires bytes { length bytes.now ≡ (C.meaning scheme.old).sector_bytes }
     ensures holds { Holds (geometry_of (D.state die.old).shape (C.meaning scheme.old) (length map.old))
@@ -48,8 +51,9 @@ pub fn put_clean<D: Die, C: Scheme>(
     ensures same_scheme { C.meaning scheme.new ≡ C.meaning scheme.old }
     ensures same_work { work.new ≡ work.old }
     ensures same_sectors { length map.new ≡ length map.old }
+    ensures same_room { moves.new ≡ moves.old }
 {
-    let page = open_page(die, scheme, work, map, book, seq, moved)?;
+    let page = open_page(die, scheme, work, map, book, seq, moves, moved)?;
     match put_sector(die, scheme, work, map, book, seq, page, sector, bytes) {
         Ok(()) => Ok(()),
         Err(DieFault) => Err(PutFault::Change),
@@ -64,6 +68,7 @@ pub fn place<D: Die, C: Scheme>(
     map: &mut SectorMap,
     book: &mut Book,
     seq: &mut u64,
+    moves: &mut Moves,
     moved: &mut u64,
     sector: u32,
     bytes: &[u8],
@@ -75,6 +80,7 @@ pub fn place<D: Die, C: Scheme>(
     requires tables { IsTrue (geometry_of (D.state die.old).shape (C.meaning scheme.old) (length map.old)) (D.state die.old).cells book.old map.old seq.old }
     requires fresh { seq.old < 2 ^ 62 }
     requires tally { moved.old < 2 ^ 64 }
+    requires room { (D.state die.old).shape.pages ≤ moves.old }
     requires sector { sector < length map.old }
     requires bytes { length bytes.now ≡ (C.meaning scheme.old).sector_bytes }
     ensures holds { Holds (geometry_of (D.state die.old).shape (C.meaning scheme.old) (length map.old))
@@ -86,15 +92,16 @@ pub fn place<D: Die, C: Scheme>(
     ensures same_scheme { C.meaning scheme.new ≡ C.meaning scheme.old }
     ensures same_work { work.new ≡ work.old }
     ensures same_sectors { length map.new ≡ length map.old }
+    ensures same_room { moves.new ≡ moves.old }
 {
     let Some(unit) = offer(book) else {
-        put_clean(die, scheme, work, map, book, seq, moved, sector, bytes)?;
+        put_clean(die, scheme, work, map, book, seq, moves, moved, sector, bytes)?;
         return Ok(Placed::First);
     };
     match put_over(die, scheme, work, map, book, seq, unit, sector, bytes) {
         Ok(Carry::Carried) => Ok(Placed::Second),
         Ok(Carry::Declined) => {
-            match put_clean(die, scheme, work, map, book, seq, moved, sector, bytes) {
+            match put_clean(die, scheme, work, map, book, seq, moves, moved, sector, bytes) {
                 Ok(()) => Ok(Placed::Declined),
                 Err(fault) => Err(fault),
             }

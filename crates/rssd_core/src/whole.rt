@@ -13,6 +13,7 @@ use crate::device::{Counts, FtlError, Placed};
 use crate::placing::place;
 use crate::row::get_row;
 use block_state::Book;
+use collector::Moves;
 use cell_die::{Die, DieFault, PowerDie, Torn};
 use page_codec::{PutFault, Work};
 use reuse_pool::recycle_due;
@@ -45,6 +46,7 @@ pub struct Ftl<D: Die + Drop, C: Scheme + Drop> {
     pub(crate) map: SectorMap,
     pub(crate) book: Book,
     pub(crate) seq: u64,
+    pub(crate) moves: Moves,
     pub(crate) reuse_max: u32,
     pub(crate) counts: Counts,
     pub(crate) stopped: bool,
@@ -78,7 +80,7 @@ impl<D: Die + Drop, C: Scheme + Drop> Model for Ftl<D, C> {
       reuse_max = f.reuse_max;
       counts = f.counts;
       stopped = f.stopped;
-    })) f.work f.map };
+    })) f.work f.moves f.map };
 }
 
 impl<D: Die + Drop, C: Scheme + Drop> Ftl<D, C> {
@@ -179,6 +181,7 @@ impl<D: Die + Drop, C: Scheme + Drop> Ftl<D, C> {
             &mut self.map,
             &mut self.book,
             &mut self.seq,
+            &mut self.moves,
             &mut self.counts.moved,
             sector,
             bytes,

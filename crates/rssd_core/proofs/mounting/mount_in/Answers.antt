@@ -13,9 +13,10 @@ invariant_of-result g c =
     let meaning = g.C.Scheme.meaning c.args.scheme in
     let room = c.requires.room in
     let tables = c.scan_all.new.tables in
-    subst (λ (sizes : Sizes). IsKept (fresh_device new meaning c.args.plan.reuse_max tables) sizes tables.map) (sym c.scan_all.ensures.same_work)
+    subst (λ (sizes : Sizes). IsKept (fresh_device new meaning c.args.plan.reuse_max tables) sizes c.args.room.moves tables.map) (sym c.scan_all.ensures.same_work)
     (device_kept old new meaning c.args.plan c.args.room.work tables (length c.args.room.tables.map) c.requires.fits room.work
-    (new_sectors old.shape c.args.plan.sectors meaning.span meaning.generations c.args.room.tables room.tables) c.in-Ok.ensures.reads c.in-Ok.ensures.mounted)
+    (new_sectors old.shape c.args.plan.sectors meaning.span meaning.generations c.args.room.tables room.tables) c.in-Ok.ensures.reads c.in-Ok.ensures.mounted
+    c.args.room.moves room.moves room.tables.some_units)
 
 pub returns-in-Ok-clause-mounted : goal.returns-in-Ok-clause-mounted
 returns-in-Ok-clause-mounted g c =

@@ -11,7 +11,7 @@ use Rattle.rssd_core.proofs.whole.Ftl.idle.Goals as goal
 
 pub invariant_of-self : goal.invariant_of-self
 invariant_of-self g c =
-    ended_kept g.D.Die.state g.C.Scheme.meaning (record { die = c.self.inside.die; scheme = c.self.inside.scheme; sizes = c.self.inside.work; table = c.self.inside.map; book = c.self.inside.book; seq = c.self.inside.seq; reuse_max = c.self.inside.reuse_max; counts = c.self.inside.counts; stopped = c.self.inside.stopped }) c.move_records-moves.new.die c.move_records-moves.new.scheme c.move_records-moves.new.work c.move_records-moves.new.map c.move_records-moves.new.book c.move_records-moves.new.seq c.saturating_add-self-inside.result c.args.n c.move_records-moves.result.count
+    ended_kept g.D.Die.state g.C.Scheme.meaning (record { die = c.self.inside.die; scheme = c.self.inside.scheme; sizes = c.self.inside.work; table = c.self.inside.map; book = c.self.inside.book; seq = c.self.inside.seq; reuse_max = c.self.inside.reuse_max; counts = c.self.inside.counts; stopped = c.self.inside.stopped }) c.move_records-moves.new.die c.move_records-moves.new.scheme c.move_records-moves.new.work c.move_records-moves.new.map c.move_records-moves.new.book c.move_records-moves.new.seq c.saturating_add-self-inside.result c.args.n c.move_records-moves.result.count c.self.inside.moves
     (record {
       kept = c.self.invariant;
       running = c.if-self.false;
@@ -24,7 +24,7 @@ invariant_of-self g c =
 pub invariant_of-self-in-Some-Read : goal.invariant_of-self-in-Some-Read
 invariant_of-self-in-Some-Read g c =
     let ended : c.move_records-moves.result.fault ≡ Some Read = ended_by c.move_records-moves.result.fault c.in-Some-Read.field-0 Read c.in-Some-Read.is (rw c.in-Some-Read.is at c.in-Some-Read.field-0-is) in
-    read_kept g.D.Die.state g.C.Scheme.meaning (record { die = c.self.inside.die; scheme = c.self.inside.scheme; sizes = c.self.inside.work; table = c.self.inside.map; book = c.self.inside.book; seq = c.self.inside.seq; reuse_max = c.self.inside.reuse_max; counts = c.self.inside.counts; stopped = c.self.inside.stopped }) c.move_records-moves.new.die c.move_records-moves.new.scheme c.move_records-moves.new.work c.move_records-moves.new.map c.move_records-moves.new.book c.move_records-moves.new.seq c.saturating_add-self-inside.result c.args.n c.move_records-moves.result.count
+    read_kept g.D.Die.state g.C.Scheme.meaning (record { die = c.self.inside.die; scheme = c.self.inside.scheme; sizes = c.self.inside.work; table = c.self.inside.map; book = c.self.inside.book; seq = c.self.inside.seq; reuse_max = c.self.inside.reuse_max; counts = c.self.inside.counts; stopped = c.self.inside.stopped }) c.move_records-moves.new.die c.move_records-moves.new.scheme c.move_records-moves.new.work c.move_records-moves.new.map c.move_records-moves.new.book c.move_records-moves.new.seq c.saturating_add-self-inside.result c.args.n c.move_records-moves.result.count c.self.inside.moves
     (record {
       kept = c.self.invariant;
       running = c.if-self.false;
@@ -37,7 +37,7 @@ invariant_of-self-in-Some-Read g c =
 pub invariant_of-self-in-Some-Change : goal.invariant_of-self-in-Some-Change
 invariant_of-self-in-Some-Change g c =
     let ended : c.move_records-moves.result.fault ≡ Some Change = ended_by c.move_records-moves.result.fault c.in-Some-Change.field-0 Change c.in-Some-Change.is (rw c.in-Some-Change.is at c.in-Some-Change.field-0-is) in
-    change_kept g.D.Die.state g.C.Scheme.meaning (record { die = c.self.inside.die; scheme = c.self.inside.scheme; sizes = c.self.inside.work; table = c.self.inside.map; book = c.self.inside.book; seq = c.self.inside.seq; reuse_max = c.self.inside.reuse_max; counts = c.self.inside.counts; stopped = c.self.inside.stopped }) c.move_records-moves.new.die c.move_records-moves.new.scheme c.move_records-moves.new.work c.move_records-moves.new.map c.move_records-moves.new.book c.move_records-moves.new.seq c.saturating_add-self-inside.result c.args.n c.move_records-moves.result.count
+    change_kept g.D.Die.state g.C.Scheme.meaning (record { die = c.self.inside.die; scheme = c.self.inside.scheme; sizes = c.self.inside.work; table = c.self.inside.map; book = c.self.inside.book; seq = c.self.inside.seq; reuse_max = c.self.inside.reuse_max; counts = c.self.inside.counts; stopped = c.self.inside.stopped }) c.move_records-moves.new.die c.move_records-moves.new.scheme c.move_records-moves.new.work c.move_records-moves.new.map c.move_records-moves.new.book c.move_records-moves.new.seq c.saturating_add-self-inside.result c.args.n c.move_records-moves.result.count c.self.inside.moves
     (record {
       kept = c.self.invariant;
       running = c.if-self.false;
@@ -50,7 +50,7 @@ invariant_of-self-in-Some-Change g c =
 pub returns-in-None-clause-holds : goal.returns-in-None-clause-holds
 returns-in-None-clause-holds g c =
     subst (λ p. Holds (device_of g.D.Die.state g.C.Scheme.meaning p).numbers (device_of g.D.Die.state g.C.Scheme.meaning p) (device_of g.D.Die.state g.C.Scheme.meaning (moved_parts g.D.Die.state g.C.Scheme.meaning (record { die = c.self.inside.die; scheme = c.self.inside.scheme; sizes = c.self.inside.work; table = c.self.inside.map; book = c.self.inside.book; seq = c.self.inside.seq; reuse_max = c.self.inside.reuse_max; counts = c.self.inside.counts; stopped = c.self.inside.stopped }) c.move_records-moves.new.die c.move_records-moves.new.scheme c.move_records-moves.new.work c.move_records-moves.new.map c.recycle_due.new.book c.move_records-moves.new.seq c.saturating_add-self-inside.result c.self.inside.stopped))) c.self.view_is
-    (ended_holds g.D.Die.state g.C.Scheme.meaning (record { die = c.self.inside.die; scheme = c.self.inside.scheme; sizes = c.self.inside.work; table = c.self.inside.map; book = c.self.inside.book; seq = c.self.inside.seq; reuse_max = c.self.inside.reuse_max; counts = c.self.inside.counts; stopped = c.self.inside.stopped }) c.move_records-moves.new.die c.move_records-moves.new.scheme c.move_records-moves.new.work c.move_records-moves.new.map c.move_records-moves.new.book c.move_records-moves.new.seq c.saturating_add-self-inside.result c.args.n c.move_records-moves.result.count
+    (ended_holds g.D.Die.state g.C.Scheme.meaning (record { die = c.self.inside.die; scheme = c.self.inside.scheme; sizes = c.self.inside.work; table = c.self.inside.map; book = c.self.inside.book; seq = c.self.inside.seq; reuse_max = c.self.inside.reuse_max; counts = c.self.inside.counts; stopped = c.self.inside.stopped }) c.move_records-moves.new.die c.move_records-moves.new.scheme c.move_records-moves.new.work c.move_records-moves.new.map c.move_records-moves.new.book c.move_records-moves.new.seq c.saturating_add-self-inside.result c.args.n c.move_records-moves.result.count c.self.inside.moves
     (record {
       kept = c.self.invariant;
       running = c.if-self.false;
@@ -63,7 +63,7 @@ returns-in-None-clause-holds g c =
 pub returns-in-None-clause-idled : goal.returns-in-None-clause-idled
 returns-in-None-clause-idled g c =
     subst (λ p. Idled (device_of g.D.Die.state g.C.Scheme.meaning p).numbers c.args.n c.move_records-moves.result.count (device_of g.D.Die.state g.C.Scheme.meaning p) (device_of g.D.Die.state g.C.Scheme.meaning (moved_parts g.D.Die.state g.C.Scheme.meaning (record { die = c.self.inside.die; scheme = c.self.inside.scheme; sizes = c.self.inside.work; table = c.self.inside.map; book = c.self.inside.book; seq = c.self.inside.seq; reuse_max = c.self.inside.reuse_max; counts = c.self.inside.counts; stopped = c.self.inside.stopped }) c.move_records-moves.new.die c.move_records-moves.new.scheme c.move_records-moves.new.work c.move_records-moves.new.map c.recycle_due.new.book c.move_records-moves.new.seq c.saturating_add-self-inside.result c.self.inside.stopped))) c.self.view_is
-    (ended_idled g.D.Die.state g.C.Scheme.meaning (record { die = c.self.inside.die; scheme = c.self.inside.scheme; sizes = c.self.inside.work; table = c.self.inside.map; book = c.self.inside.book; seq = c.self.inside.seq; reuse_max = c.self.inside.reuse_max; counts = c.self.inside.counts; stopped = c.self.inside.stopped }) c.move_records-moves.new.die c.move_records-moves.new.scheme c.move_records-moves.new.work c.move_records-moves.new.map c.move_records-moves.new.book c.move_records-moves.new.seq c.saturating_add-self-inside.result c.args.n c.move_records-moves.result.count
+    (ended_idled g.D.Die.state g.C.Scheme.meaning (record { die = c.self.inside.die; scheme = c.self.inside.scheme; sizes = c.self.inside.work; table = c.self.inside.map; book = c.self.inside.book; seq = c.self.inside.seq; reuse_max = c.self.inside.reuse_max; counts = c.self.inside.counts; stopped = c.self.inside.stopped }) c.move_records-moves.new.die c.move_records-moves.new.scheme c.move_records-moves.new.work c.move_records-moves.new.map c.move_records-moves.new.book c.move_records-moves.new.seq c.saturating_add-self-inside.result c.args.n c.move_records-moves.result.count c.self.inside.moves
     (record {
       kept = c.self.invariant;
       running = c.if-self.false;
@@ -77,7 +77,7 @@ pub returns-in-Some-Read-clause-holds : goal.returns-in-Some-Read-clause-holds
 returns-in-Some-Read-clause-holds g c =
     let ended : c.move_records-moves.result.fault ≡ Some Read = ended_by c.move_records-moves.result.fault c.in-Some-Read.field-0 Read c.in-Some-Read.is (rw c.in-Some-Read.is at c.in-Some-Read.field-0-is) in
     subst (λ p. Holds (device_of g.D.Die.state g.C.Scheme.meaning p).numbers (device_of g.D.Die.state g.C.Scheme.meaning p) (device_of g.D.Die.state g.C.Scheme.meaning (moved_parts g.D.Die.state g.C.Scheme.meaning (record { die = c.self.inside.die; scheme = c.self.inside.scheme; sizes = c.self.inside.work; table = c.self.inside.map; book = c.self.inside.book; seq = c.self.inside.seq; reuse_max = c.self.inside.reuse_max; counts = c.self.inside.counts; stopped = c.self.inside.stopped }) c.move_records-moves.new.die c.move_records-moves.new.scheme c.move_records-moves.new.work c.move_records-moves.new.map c.recycle_due-in-Some-Read.new.book c.move_records-moves.new.seq c.saturating_add-self-inside.result c.self.inside.stopped))) c.self.view_is
-    (read_holds_parts g.D.Die.state g.C.Scheme.meaning (record { die = c.self.inside.die; scheme = c.self.inside.scheme; sizes = c.self.inside.work; table = c.self.inside.map; book = c.self.inside.book; seq = c.self.inside.seq; reuse_max = c.self.inside.reuse_max; counts = c.self.inside.counts; stopped = c.self.inside.stopped }) c.move_records-moves.new.die c.move_records-moves.new.scheme c.move_records-moves.new.work c.move_records-moves.new.map c.move_records-moves.new.book c.move_records-moves.new.seq c.saturating_add-self-inside.result c.args.n c.move_records-moves.result.count
+    (read_holds_parts g.D.Die.state g.C.Scheme.meaning (record { die = c.self.inside.die; scheme = c.self.inside.scheme; sizes = c.self.inside.work; table = c.self.inside.map; book = c.self.inside.book; seq = c.self.inside.seq; reuse_max = c.self.inside.reuse_max; counts = c.self.inside.counts; stopped = c.self.inside.stopped }) c.move_records-moves.new.die c.move_records-moves.new.scheme c.move_records-moves.new.work c.move_records-moves.new.map c.move_records-moves.new.book c.move_records-moves.new.seq c.saturating_add-self-inside.result c.args.n c.move_records-moves.result.count c.self.inside.moves
     (record {
       kept = c.self.invariant;
       running = c.if-self.false;
@@ -91,7 +91,7 @@ pub returns-in-Some-Read-clause-fault : goal.returns-in-Some-Read-clause-fault
 returns-in-Some-Read-clause-fault g c =
     let ended : c.move_records-moves.result.fault ≡ Some Read = ended_by c.move_records-moves.result.fault c.in-Some-Read.field-0 Read c.in-Some-Read.is (rw c.in-Some-Read.is at c.in-Some-Read.field-0-is) in
     λ is. subst (λ p. IdleFault (device_of g.D.Die.state g.C.Scheme.meaning p).numbers c.args.n (device_of g.D.Die.state g.C.Scheme.meaning p) (device_of g.D.Die.state g.C.Scheme.meaning (moved_parts g.D.Die.state g.C.Scheme.meaning (record { die = c.self.inside.die; scheme = c.self.inside.scheme; sizes = c.self.inside.work; table = c.self.inside.map; book = c.self.inside.book; seq = c.self.inside.seq; reuse_max = c.self.inside.reuse_max; counts = c.self.inside.counts; stopped = c.self.inside.stopped }) c.move_records-moves.new.die c.move_records-moves.new.scheme c.move_records-moves.new.work c.move_records-moves.new.map c.recycle_due-in-Some-Read.new.book c.move_records-moves.new.seq c.saturating_add-self-inside.result c.self.inside.stopped))) c.self.view_is
-    (read_fault g.D.Die.state g.C.Scheme.meaning (record { die = c.self.inside.die; scheme = c.self.inside.scheme; sizes = c.self.inside.work; table = c.self.inside.map; book = c.self.inside.book; seq = c.self.inside.seq; reuse_max = c.self.inside.reuse_max; counts = c.self.inside.counts; stopped = c.self.inside.stopped }) c.move_records-moves.new.die c.move_records-moves.new.scheme c.move_records-moves.new.work c.move_records-moves.new.map c.move_records-moves.new.book c.move_records-moves.new.seq c.saturating_add-self-inside.result c.args.n c.move_records-moves.result.count
+    (read_fault g.D.Die.state g.C.Scheme.meaning (record { die = c.self.inside.die; scheme = c.self.inside.scheme; sizes = c.self.inside.work; table = c.self.inside.map; book = c.self.inside.book; seq = c.self.inside.seq; reuse_max = c.self.inside.reuse_max; counts = c.self.inside.counts; stopped = c.self.inside.stopped }) c.move_records-moves.new.die c.move_records-moves.new.scheme c.move_records-moves.new.work c.move_records-moves.new.map c.move_records-moves.new.book c.move_records-moves.new.seq c.saturating_add-self-inside.result c.args.n c.move_records-moves.result.count c.self.inside.moves
     (record {
       kept = c.self.invariant;
       running = c.if-self.false;
@@ -105,7 +105,7 @@ pub returns-in-Some-Change-clause-holds : goal.returns-in-Some-Change-clause-hol
 returns-in-Some-Change-clause-holds g c =
     let ended : c.move_records-moves.result.fault ≡ Some Change = ended_by c.move_records-moves.result.fault c.in-Some-Change.field-0 Change c.in-Some-Change.is (rw c.in-Some-Change.is at c.in-Some-Change.field-0-is) in
     subst (λ p. Holds (device_of g.D.Die.state g.C.Scheme.meaning p).numbers (device_of g.D.Die.state g.C.Scheme.meaning p) (device_of g.D.Die.state g.C.Scheme.meaning (moved_parts g.D.Die.state g.C.Scheme.meaning (record { die = c.self.inside.die; scheme = c.self.inside.scheme; sizes = c.self.inside.work; table = c.self.inside.map; book = c.self.inside.book; seq = c.self.inside.seq; reuse_max = c.self.inside.reuse_max; counts = c.self.inside.counts; stopped = c.self.inside.stopped }) c.move_records-moves.new.die c.move_records-moves.new.scheme c.move_records-moves.new.work c.move_records-moves.new.map c.move_records-moves.new.book c.move_records-moves.new.seq c.saturating_add-self-inside.result true))) c.self.view_is
-    (change_holds g.D.Die.state g.C.Scheme.meaning (record { die = c.self.inside.die; scheme = c.self.inside.scheme; sizes = c.self.inside.work; table = c.self.inside.map; book = c.self.inside.book; seq = c.self.inside.seq; reuse_max = c.self.inside.reuse_max; counts = c.self.inside.counts; stopped = c.self.inside.stopped }) c.move_records-moves.new.die c.move_records-moves.new.scheme c.move_records-moves.new.work c.move_records-moves.new.map c.move_records-moves.new.book c.move_records-moves.new.seq c.saturating_add-self-inside.result c.args.n c.move_records-moves.result.count
+    (change_holds g.D.Die.state g.C.Scheme.meaning (record { die = c.self.inside.die; scheme = c.self.inside.scheme; sizes = c.self.inside.work; table = c.self.inside.map; book = c.self.inside.book; seq = c.self.inside.seq; reuse_max = c.self.inside.reuse_max; counts = c.self.inside.counts; stopped = c.self.inside.stopped }) c.move_records-moves.new.die c.move_records-moves.new.scheme c.move_records-moves.new.work c.move_records-moves.new.map c.move_records-moves.new.book c.move_records-moves.new.seq c.saturating_add-self-inside.result c.args.n c.move_records-moves.result.count c.self.inside.moves
     (record {
       kept = c.self.invariant;
       running = c.if-self.false;
@@ -119,7 +119,7 @@ pub returns-in-Some-Change-clause-fault : goal.returns-in-Some-Change-clause-fau
 returns-in-Some-Change-clause-fault g c =
     let ended : c.move_records-moves.result.fault ≡ Some Change = ended_by c.move_records-moves.result.fault c.in-Some-Change.field-0 Change c.in-Some-Change.is (rw c.in-Some-Change.is at c.in-Some-Change.field-0-is) in
     λ is. subst (λ p. IdleFault (device_of g.D.Die.state g.C.Scheme.meaning p).numbers c.args.n (device_of g.D.Die.state g.C.Scheme.meaning p) (device_of g.D.Die.state g.C.Scheme.meaning (moved_parts g.D.Die.state g.C.Scheme.meaning (record { die = c.self.inside.die; scheme = c.self.inside.scheme; sizes = c.self.inside.work; table = c.self.inside.map; book = c.self.inside.book; seq = c.self.inside.seq; reuse_max = c.self.inside.reuse_max; counts = c.self.inside.counts; stopped = c.self.inside.stopped }) c.move_records-moves.new.die c.move_records-moves.new.scheme c.move_records-moves.new.work c.move_records-moves.new.map c.move_records-moves.new.book c.move_records-moves.new.seq c.saturating_add-self-inside.result true))) c.self.view_is
-    (change_fault g.D.Die.state g.C.Scheme.meaning (record { die = c.self.inside.die; scheme = c.self.inside.scheme; sizes = c.self.inside.work; table = c.self.inside.map; book = c.self.inside.book; seq = c.self.inside.seq; reuse_max = c.self.inside.reuse_max; counts = c.self.inside.counts; stopped = c.self.inside.stopped }) c.move_records-moves.new.die c.move_records-moves.new.scheme c.move_records-moves.new.work c.move_records-moves.new.map c.move_records-moves.new.book c.move_records-moves.new.seq c.saturating_add-self-inside.result c.args.n c.move_records-moves.result.count
+    (change_fault g.D.Die.state g.C.Scheme.meaning (record { die = c.self.inside.die; scheme = c.self.inside.scheme; sizes = c.self.inside.work; table = c.self.inside.map; book = c.self.inside.book; seq = c.self.inside.seq; reuse_max = c.self.inside.reuse_max; counts = c.self.inside.counts; stopped = c.self.inside.stopped }) c.move_records-moves.new.die c.move_records-moves.new.scheme c.move_records-moves.new.work c.move_records-moves.new.map c.move_records-moves.new.book c.move_records-moves.new.seq c.saturating_add-self-inside.result c.args.n c.move_records-moves.result.count c.self.inside.moves
     (record {
       kept = c.self.invariant;
       running = c.if-self.false;

@@ -14,12 +14,12 @@ use Rattle.rssd_core.proofs.WroteFirst.{view_at}
 use Rattle.rssd_core.proofs.whole.Ftl.write.Goals as goal
 
 pub invariant_of-self : goal.invariant_of-self
-invariant_of-self g c = kept_after (g.D.Die.state c.self.inside.die) (g.D.Die.state c.place.new.die) (g.C.Scheme.meaning c.self.inside.scheme) (g.C.Scheme.meaning c.place.new.scheme) c.self.inside.work c.place.new.work c.self.inside.map c.place.new.map c.self.inside.reuse_max (view_at (store (g.D.Die.state c.self.inside.die) c.self.inside.map c.self.inside.book c.self.inside.seq) c.self.inside.counts.first c.self.inside.counts.second c.self.inside.counts.declined c.self.inside.counts.moved) (view_at (record (store (g.D.Die.state c.place.new.die) c.place.new.map c.place.new.book c.place.new.seq) { book = c.recycle_due.new.book }) c.counted-self-inside.result.first c.counted-self-inside.result.second c.counted-self-inside.result.declined c.counted-self-inside.result.moved) c.self.inside.stopped c.self.inside.stopped refl refl c.self.invariant
-    c.place.ensures.holds.kept.shape c.place.ensures.same_scheme c.place.ensures.same_sectors c.place.ensures.same_work (λ running. recycled_book (geometry_of (g.D.Die.state c.self.inside.die).shape (g.C.Scheme.meaning c.self.inside.scheme) (length c.self.inside.map)) c.self.inside.reuse_max (store (g.D.Die.state c.place.new.die) c.place.new.map c.place.new.book c.place.new.seq) c.recycle_due.new.book c.self.invariant.sized (placed_true (geometry_of (g.D.Die.state c.self.inside.die).shape (g.C.Scheme.meaning c.self.inside.scheme) (length c.self.inside.map)) (g.C.Scheme.meaning c.self.inside.scheme).decoding c.args.sector c.args.bytes.now c.in-Ok.placed (store (g.D.Die.state c.self.inside.die) c.self.inside.map c.self.inside.book c.self.inside.seq) (store (g.D.Die.state c.place.new.die) c.place.new.map c.place.new.book c.place.new.seq) c.self.inside.counts.moved c.place.new.moved c.in-Ok.ensures.ends) c.recycle_due.ensures.recycles)
+invariant_of-self g c = kept_after (g.D.Die.state c.self.inside.die) (g.D.Die.state c.place.new.die) (g.C.Scheme.meaning c.self.inside.scheme) (g.C.Scheme.meaning c.place.new.scheme) c.self.inside.work c.place.new.work c.self.inside.moves c.place.new.moves c.self.inside.map c.place.new.map c.self.inside.reuse_max (view_at (store (g.D.Die.state c.self.inside.die) c.self.inside.map c.self.inside.book c.self.inside.seq) c.self.inside.counts.first c.self.inside.counts.second c.self.inside.counts.declined c.self.inside.counts.moved) (view_at (record (store (g.D.Die.state c.place.new.die) c.place.new.map c.place.new.book c.place.new.seq) { book = c.recycle_due.new.book }) c.counted-self-inside.result.first c.counted-self-inside.result.second c.counted-self-inside.result.declined c.counted-self-inside.result.moved) c.self.inside.stopped c.self.inside.stopped refl refl c.self.invariant
+    c.place.ensures.holds.kept.shape c.place.ensures.same_scheme c.place.ensures.same_sectors c.place.ensures.same_work c.place.ensures.same_room (λ running. recycled_book (geometry_of (g.D.Die.state c.self.inside.die).shape (g.C.Scheme.meaning c.self.inside.scheme) (length c.self.inside.map)) c.self.inside.reuse_max (store (g.D.Die.state c.place.new.die) c.place.new.map c.place.new.book c.place.new.seq) c.recycle_due.new.book c.self.invariant.sized (placed_true (geometry_of (g.D.Die.state c.self.inside.die).shape (g.C.Scheme.meaning c.self.inside.scheme) (length c.self.inside.map)) (g.C.Scheme.meaning c.self.inside.scheme).decoding c.args.sector c.args.bytes.now c.in-Ok.placed (store (g.D.Die.state c.self.inside.die) c.self.inside.map c.self.inside.book c.self.inside.seq) (store (g.D.Die.state c.place.new.die) c.place.new.map c.place.new.book c.place.new.seq) c.self.inside.counts.moved c.place.new.moved c.in-Ok.ensures.ends) c.recycle_due.ensures.recycles)
 
 pub invariant_of-self-in-Err-Read : goal.invariant_of-self-in-Err-Read
-invariant_of-self-in-Err-Read g c = kept_after (g.D.Die.state c.self.inside.die) (g.D.Die.state c.place.new.die) (g.C.Scheme.meaning c.self.inside.scheme) (g.C.Scheme.meaning c.place.new.scheme) c.self.inside.work c.place.new.work c.self.inside.map c.place.new.map c.self.inside.reuse_max (view_at (store (g.D.Die.state c.self.inside.die) c.self.inside.map c.self.inside.book c.self.inside.seq) c.self.inside.counts.first c.self.inside.counts.second c.self.inside.counts.declined c.self.inside.counts.moved) (view_at (record (store (g.D.Die.state c.place.new.die) c.place.new.map c.place.new.book c.place.new.seq) { book = c.recycle_due-in-Err-Read.new.book }) c.self.inside.counts.first c.self.inside.counts.second c.self.inside.counts.declined c.place.new.moved) c.self.inside.stopped c.self.inside.stopped refl refl c.self.invariant
-    c.place.ensures.holds.kept.shape c.place.ensures.same_scheme c.place.ensures.same_sectors c.place.ensures.same_work (λ running. recycled_book (geometry_of (g.D.Die.state c.self.inside.die).shape (g.C.Scheme.meaning c.self.inside.scheme) (length c.self.inside.map)) c.self.inside.reuse_max (store (g.D.Die.state c.place.new.die) c.place.new.map c.place.new.book c.place.new.seq) c.recycle_due-in-Err-Read.new.book c.self.invariant.sized (unread_true (geometry_of (g.D.Die.state c.self.inside.die).shape (g.C.Scheme.meaning c.self.inside.scheme) (length c.self.inside.map)) (g.C.Scheme.meaning c.self.inside.scheme).decoding c.args.sector c.args.bytes.now (store (g.D.Die.state c.self.inside.die) c.self.inside.map c.self.inside.book c.self.inside.seq) (store (g.D.Die.state c.place.new.die) c.place.new.map c.place.new.book c.place.new.seq) c.self.inside.counts.moved c.place.new.moved (c.self.invariant.tables c.if-self.false).tables (subst (λ (f : PutFault). PlaceEnds (geometry_of (g.D.Die.state c.self.inside.die).shape (g.C.Scheme.meaning c.self.inside.scheme) (length c.self.inside.map)) (g.C.Scheme.meaning c.self.inside.scheme).decoding c.args.sector c.args.bytes.now (Err f) (store (g.D.Die.state c.self.inside.die) c.self.inside.map c.self.inside.book c.self.inside.seq) (store (g.D.Die.state c.place.new.die) c.place.new.map c.place.new.book c.place.new.seq) c.self.inside.counts.moved c.place.new.moved) c.in-Err-Read.field-0-is c.in-Err-Read.ensures.ends)) c.recycle_due-in-Err-Read.ensures.recycles)
+invariant_of-self-in-Err-Read g c = kept_after (g.D.Die.state c.self.inside.die) (g.D.Die.state c.place.new.die) (g.C.Scheme.meaning c.self.inside.scheme) (g.C.Scheme.meaning c.place.new.scheme) c.self.inside.work c.place.new.work c.self.inside.moves c.place.new.moves c.self.inside.map c.place.new.map c.self.inside.reuse_max (view_at (store (g.D.Die.state c.self.inside.die) c.self.inside.map c.self.inside.book c.self.inside.seq) c.self.inside.counts.first c.self.inside.counts.second c.self.inside.counts.declined c.self.inside.counts.moved) (view_at (record (store (g.D.Die.state c.place.new.die) c.place.new.map c.place.new.book c.place.new.seq) { book = c.recycle_due-in-Err-Read.new.book }) c.self.inside.counts.first c.self.inside.counts.second c.self.inside.counts.declined c.place.new.moved) c.self.inside.stopped c.self.inside.stopped refl refl c.self.invariant
+    c.place.ensures.holds.kept.shape c.place.ensures.same_scheme c.place.ensures.same_sectors c.place.ensures.same_work c.place.ensures.same_room (λ running. recycled_book (geometry_of (g.D.Die.state c.self.inside.die).shape (g.C.Scheme.meaning c.self.inside.scheme) (length c.self.inside.map)) c.self.inside.reuse_max (store (g.D.Die.state c.place.new.die) c.place.new.map c.place.new.book c.place.new.seq) c.recycle_due-in-Err-Read.new.book c.self.invariant.sized (unread_true (geometry_of (g.D.Die.state c.self.inside.die).shape (g.C.Scheme.meaning c.self.inside.scheme) (length c.self.inside.map)) (g.C.Scheme.meaning c.self.inside.scheme).decoding c.args.sector c.args.bytes.now (store (g.D.Die.state c.self.inside.die) c.self.inside.map c.self.inside.book c.self.inside.seq) (store (g.D.Die.state c.place.new.die) c.place.new.map c.place.new.book c.place.new.seq) c.self.inside.counts.moved c.place.new.moved (c.self.invariant.tables c.if-self.false).tables (subst (λ (f : PutFault). PlaceEnds (geometry_of (g.D.Die.state c.self.inside.die).shape (g.C.Scheme.meaning c.self.inside.scheme) (length c.self.inside.map)) (g.C.Scheme.meaning c.self.inside.scheme).decoding c.args.sector c.args.bytes.now (Err f) (store (g.D.Die.state c.self.inside.die) c.self.inside.map c.self.inside.book c.self.inside.seq) (store (g.D.Die.state c.place.new.die) c.place.new.map c.place.new.book c.place.new.seq) c.self.inside.counts.moved c.place.new.moved) c.in-Err-Read.field-0-is c.in-Err-Read.ensures.ends)) c.recycle_due-in-Err-Read.ensures.recycles)
 
 pub returns-in-Ok-clause-holds : goal.returns-in-Ok-clause-holds
 returns-in-Ok-clause-holds g c = subst (λ p. Holds (device_of g.D.Die.state g.C.Scheme.meaning p).numbers (device_of g.D.Die.state g.C.Scheme.meaning p) (record { numbers = (numbers_at (g.D.Die.state c.place.new.die).shape (g.C.Scheme.meaning c.place.new.scheme) (length c.place.new.map) c.self.inside.reuse_max); view = (view_at (record (store (g.D.Die.state c.place.new.die) c.place.new.map c.place.new.book c.place.new.seq) { book = c.recycle_due.new.book }) c.counted-self-inside.result.first c.counted-self-inside.result.second c.counted-self-inside.result.declined c.counted-self-inside.result.moved); stopped = c.self.inside.stopped })) c.self.view_is
