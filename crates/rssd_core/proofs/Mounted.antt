@@ -1,5 +1,5 @@
 -- The tables of a scan are those of a mounted device: its numbers are the scheme's, as the buffers' are, and a read changes no cell.
-use Rattle.std.proofs.Common.{◌≡◌, ℕ, ◌*◌, ◌-◌, ◌<◌, false, List, length, Option, None, refl, sym, ap, ◌∙◌, subst, arith}
+use Rattle.std.proofs.Common.{◌≡◌, ℕ, ◌*◌, ◌-◌, ◌/◌, ◌<◌, ◌≤◌, false, List, length, Option, None, refl, sym, ap, ◌∙◌, subst, arith}
 use Rattle.std.proofs.lemmas.List.{length-replicate}
 use Rattle.std.proofs.Math.Nat.{mul-le-mul}
 use Rattle.cell_die.specs.declared.shape.Shape.{Shape}

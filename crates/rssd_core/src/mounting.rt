@@ -120,7 +120,7 @@ fn refusal(why: ScanRefusal) -> MountError
 fn mount_in<D: Die + Drop, C: Scheme + Drop>(
     mut die: D,
     scheme: C,
-    mut room: Room,
+    room: Room,
     plan: Plan,
 ) -> Result<Ftl<D, C>, Refused<D, C>>
     requires fits { Fits (D.state die).shape (C.meaning scheme) plan }
@@ -130,15 +130,20 @@ fn mount_in<D: Die + Drop, C: Scheme + Drop>(
     ensures refused { IfErr result (λ refused. Refuses (numbers_of (D.state die).shape (C.meaning scheme) plan) (D.state die) (D.state refused.die) refused.why) }
     ensures scheme { IfErr result (λ refused. C.meaning refused.scheme ≡ C.meaning scheme) }
 {
-    match scan_all(&mut die, &mut room.work, &mut room.tables, plan.reuse_max) {
+    let Room {
+        mut work,
+        mut tables,
+        moves,
+    } = room;
+    match scan_all(&mut die, &mut work, &mut tables, plan.reuse_max) {
         Ok(()) => Ok(Ftl {
             die,
             scheme,
-            work: room.work,
-            map: room.tables.map,
-            book: room.tables.book,
-            seq: room.tables.seq,
-            moves: room.moves,
+            work,
+            map: tables.map,
+            book: tables.book,
+            seq: tables.seq,
+            moves,
             reuse_max: plan.reuse_max,
             counts: NO_COUNTS,
             stopped: false,
