@@ -29,7 +29,6 @@ use Rattle.collector.proofs.Books.{state_here, state_there, spare_within}
 use Rattle.collector.proofs.Clearing.{SparesIn, BlankedSo, TornSo, spare_there, page_there_is}
 use Rattle.collector.proofs.Settled.{settled_again}
 
-
 -- the shape of a die that buffers of these sizes serve, with a scheme that they serve
 pub shape_is : (shape : Shape) (meaning : Meaning) (sectors : ℕ) (sizes : Sizes) → Serves sizes shape → ServesScheme sizes meaning → shape ≡ shape_of (geometry_of shape meaning sectors)
 shape_is shape meaning sectors sizes s t =

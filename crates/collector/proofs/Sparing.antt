@@ -1,10 +1,9 @@
 -- Where only the Spare changes, and no live record, the tables stay true.
-use Rattle.std.proofs.Common.{◌≡◌, ◌≢◌, inl, inr, ℕ, ◌<◌, Bool, true, List, length, map, Option, Some, sym, ap, ◌∙◌, subst, length-set}
+use Rattle.std.proofs.Common.{◌≡◌, ◌≢◌, inl, inr, ℕ, Bool, true, List, map, Option, Some, sym, ap, ◌∙◌, subst, length-set}
 use Rattle.std.specs.List.{range_with_len}
-use Rattle.std.proofs.lemmas.Bool.{cases_eq, cases_lt, false≢true, eq-eqb}
-use Rattle.std.proofs.lemmas.List.{get_or_past}
+use Rattle.std.proofs.lemmas.Bool.{cases_eq, false≢true, eq-eqb}
 use Rattle.sector_map.specs.declared.entry.Entry.{Entry}
-use Rattle.block_state.specs.declared.state.State.TheVariants.{Clean, Spare}
+use Rattle.block_state.specs.declared.state.State.TheVariants.{Spare}
 use Rattle.block_state.specs.State.{is_spare}
 use Rattle.block_state.specs.Book.{BookValue, IsSpare, HasOneSpare, state_at, with_state}
 use Rattle.page_codec.specs.Geometry.{Geometry, block_of}
