@@ -34,11 +34,11 @@ use Rattle.page_codec.proofs.Within.{header_valid, header_within}
 use Rattle.collector.specs.Store.{Store, store, IsTrueStore, SameRows, Holds}
 use Rattle.collector.specs.Steps.{MadeBlank, was_blank, was_erased}
 use Rattle.collector.proofs.BlankPages.{blank_header}
-use Rattle.collector.proofs.Books.{state_here}
+use Rattle.collector.proofs.Books.{state_here, spare_within}
 use Rattle.collector.proofs.Committed.{committed_so}
 use Rattle.collector.proofs.Elsewhere.{OnlyIn, rows_stay, committed_elsewhere}
 use Rattle.collector.proofs.Shapes.{has_shape, some_pages, same_block, page_there}
-use Rattle.collector.proofs.Sparing.{none_stands, spare_changes, spare_within}
+use Rattle.collector.proofs.Sparing.{none_stands, spare_changes}
 use Rattle.collector.proofs.States.{block_blank, page_in_block}
 
 -- ---- cells that fall in one block

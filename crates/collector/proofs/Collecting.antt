@@ -25,10 +25,9 @@ use Rattle.collector.specs.Collections.{Collected, CollectReadFailed, CollectCha
 use Rattle.collector.specs.Inside.{Begun, CollectEnds}
 use Rattle.collector.specs.Steps.{MadeBlank, was_blank, was_erased}
 use Rattle.collector.specs.Store.{Store, store, geometry_of, Holds}
-use Rattle.collector.proofs.Books.{state_here, state_there}
+use Rattle.collector.proofs.Books.{state_here, state_there, spare_within}
 use Rattle.collector.proofs.Clearing.{SparesIn, BlankedSo, TornSo, spare_there, page_there_is}
 use Rattle.collector.proofs.Settled.{settled_again}
-use Rattle.collector.proofs.Sparing.{spare_within}
 
 -- the shape of a die that buffers of these sizes serve, with a scheme that they serve
 pub shape_is : (shape : Shape) (meaning : Meaning) (sectors : ℕ) (sizes : Sizes) → Serves sizes shape → ServesScheme sizes meaning → shape ≡ shape_of (geometry_of shape meaning sectors)

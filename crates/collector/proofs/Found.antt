@@ -23,7 +23,8 @@ use Rattle.page_codec.proofs.Live.{holds_within}
 use Rattle.collector.specs.declared.moves.Move.{Move}
 use Rattle.collector.specs.Collections.{collection_reads, get_reads}
 use Rattle.page_codec.specs.Sectors.{says_zeros}
-use Rattle.collector.specs.Inside.{Stands, TurnEnds, Reached, ReadStopped, number_of, names_place, passed_gets}
+use Rattle.collector.specs.Inside.{Stands, TurnEnds, Reached, ReadStopped, number_of, passed_gets}
+use Rattle.collector.specs.Named.{names_slot}
 use Rattle.collector.specs.Settles.{move_of}
 use Rattle.collector.specs.Steps.{PutsDrawn, DecodesTo, copied_header, copy_reads, CopyEnds}
 use Rattle.collector.specs.Store.{Store, store}
@@ -58,15 +59,15 @@ module _ (g : Geometry) (meaning : Meaning) (spare : ℕ) (start now : Store) (p
       sum a b = omega arith
 
   -- no live record in the slot
-  pub slot_skipped : ((h : Header) → header_in g now.die.cells place ≡ Some h → names_place (entry_at now.table h.sector) place ≡ false)
+  pub slot_skipped : ((h : Header) → header_in g now.die.cells place ≡ Some h → names_slot (entry_at now.table h.sector) place ≡ false)
       → Reached g meaning.decoding (block_of g place.page) spare start now (place.page % g.pages * g.generations + (place.slot + 1)) pages copies moves
   slot_skipped none = subst (λ (n : ℕ). Reached g meaning.decoding (block_of g place.page) spare start now n pages copies moves) next_number (reached_skip g meaning (block_of g place.page) spare start s.begun now (number_of g place) pages copies moves s.reached
       (unnamed_none g start.die.cells (block_of g place.page) place one_slot s.slot refl
-      (λ h e. subst (λ table. names_place (entry_at table h.sector) place ≡ false) table_is (none h (sym header_was ∙ e)))))
+      (λ h e. subst (λ table. names_slot (entry_at table h.sector) place ≡ false) table_is (none h (sym header_was ∙ e)))))
 
-  module _ (h : Header) (there : header_in g now.die.cells place ≡ Some h) (named : names_place (entry_at now.table h.sector) place ≡ true) where
+  module _ (h : Header) (there : header_in g now.die.cells place ≡ Some h) (named : names_slot (entry_at now.table h.sector) place ≡ true) where
     live : live_record g start.die.cells h.sector ≡ Some (placed_at place h)
-    live = named_there g start.die.cells place h (header_was ∙ there) (subst (λ table. names_place (entry_at table h.sector) place ≡ true) table_is named)
+    live = named_there g start.die.cells place h (header_was ∙ there) (subst (λ table. names_slot (entry_at table h.sector) place ≡ true) table_is named)
 
     pub found_more : copies + 1 ≤ live_at start.book (block_of g place.page)
     found_more = omega (

@@ -1,10 +1,9 @@
 -- Where only the Spare changes, and no live record, the tables stay true.
-use Rattle.std.proofs.Common.{◌≡◌, ◌≢◌, inl, inr, ℕ, ◌<◌, Bool, true, List, length, map, Option, Some, sym, ap, ◌∙◌, subst, length-set}
+use Rattle.std.proofs.Common.{◌≡◌, ◌≢◌, inl, inr, ℕ, Bool, true, List, map, Option, Some, sym, ap, ◌∙◌, subst, length-set}
 use Rattle.std.specs.List.{range_with_len}
-use Rattle.std.proofs.lemmas.Bool.{cases_eq, cases_lt, false≢true, eq-eqb}
-use Rattle.std.proofs.lemmas.List.{get_or_past}
+use Rattle.std.proofs.lemmas.Bool.{cases_eq, false≢true, eq-eqb}
 use Rattle.sector_map.specs.declared.entry.Entry.{Entry}
-use Rattle.block_state.specs.declared.state.State.TheVariants.{Clean, Spare}
+use Rattle.block_state.specs.declared.state.State.TheVariants.{Spare}
 use Rattle.block_state.specs.State.{is_spare}
 use Rattle.block_state.specs.Book.{BookValue, IsSpare, HasOneSpare, state_at, with_state}
 use Rattle.page_codec.specs.Geometry.{Geometry, block_of}
@@ -12,7 +11,7 @@ use Rattle.page_codec.specs.Records.{Placed, live_record}
 use Rattle.page_codec.specs.Sound.{live_count, stands_in}
 use Rattle.page_codec.specs.TrueBook.{IsTrue as IsTrueTo, IsTrueState, IsTrueSpare, IsNextSeq, is_block_blank, live_map, entry_of}
 use Rattle.page_codec.proofs.SoundErase.{live_count_same}
-use Rattle.collector.proofs.Books.{state_here, state_there, valid_state}
+use Rattle.collector.proofs.Books.{state_here, state_there, valid_state, spare_within}
 use Rattle.collector.proofs.Counting.{none_passes}
 use Rattle.collector.proofs.Committed.{live_so}
 use Rattle.collector.proofs.Elsewhere.{OnlyIn}
@@ -29,13 +28,6 @@ unfolding live_count
 none_stands g cells block none sector x e here = false≢true (
     sym (none_passes (λ s. stands_in g block (live_record g cells s)) g.sectors none sector (live_so g cells sector x e).within)
     ∙ (ap (stands_in g block) e ∙ eq-eqb _ _ here))
-
--- a Spare block is one of the blocks
-pub spare_within : (v : BookValue) (b : ℕ) → IsSpare v b → b < length v.states
-spare_within v b is = elim (cases_lt b (length v.states)) [
-  | inl within ↦ within
-  | inr past ↦ absurd (false≢true (sym (ap is_spare (get_or_past v.states b Clean past)) ∙ is))
-]
 
 -- the Spare stays the one Spare, marked as it may be
 pub spare_remarked : (v : BookValue) (b : ℕ) (marked : Bool) → IsSpare v b → HasOneSpare v → HasOneSpare (with_state v b (Spare marked))

@@ -9,8 +9,6 @@ use Rattle.striped.specs.Meaning.{Meaning, Decoding}
 use Rattle.spare_gate.specs.Slots.{is_gate_charged, is_slot_blank}
 use Rattle.block_state.specs.declared.state.State.TheVariants.{Spare}
 use Rattle.block_state.specs.Book.{IsClosed, NoneActive, state_at, live_at, with_state}
-use Rattle.sector_map.specs.declared.entry.Entry.{Entry}
-use Rattle.sector_map.specs.Entry.{place_of}
 use Rattle.page_codec.specs.declared.place.Place.{Place}
 use Rattle.page_codec.specs.declared.fault.PutFault.{PutFault}
 use Rattle.page_codec.specs.declared.fault.PutFault.TheVariants.{Read, Change}
@@ -80,11 +78,6 @@ pub record Inside (g : Geometry) (d : Decoding) (spare : ℕ) (start now : Store
   pub book : ((now.book ≡ start.book) × (length records ≡ 0)) ⊎ (now.book ≡ with_state start.book spare (Spare false))
   pub seq : now.seq ≡ start.seq + length records
   pub holds : Holds g start now
-
--- an entry names this place
-abbrev pub names_place : Option Entry → Place → Bool
-names_place None place = false
-names_place (Some entry) place = (place_of entry).page == place.page && (place_of entry).slot == place.slot
 
 -- A collection has scanned the victim's slots up to a cursor, on so many pages, and copied the live records that it met.
 pub record Reached (g : Geometry) (d : Decoding) (victim spare : ℕ) (start now : Store) (cursor pages copies : ℕ) (moves : List Move) : Type 0 where

@@ -13,6 +13,7 @@ ghost use Rattle.page_codec.specs.Puts.{first_slot, is_gated};
 ghost use Rattle.striped.specs.Meaning.{Meaning};
 ghost use Rattle.page_codec.specs.declared.place.Place.{Place};
 
+use crate::again::says_zeros as zeros_said;
 use block_state::{Book, State};
 use cell_die::{Die, DieFault};
 use page_codec::{Place, PutFault, Work, get, put_first, put_zeros};
@@ -38,13 +39,6 @@ fn draw(book: &mut Book, seq: &mut u64, spare: u32, sector: u32, kind: u8) -> He
         seq: drawn,
         kind,
     }
-}
-
-/// Whether a record says that its sector is zeros.
-pub(crate) fn is_of_zeros(header: &Header) -> bool
-    ensures { result ≡ says_zeros header.now }
-{
-    header.kind == 3 || header.kind == 4
 }
 
 /// Copies a record of zeros.
@@ -182,7 +176,7 @@ pub(crate) fn copy_record<D: Die, C: Scheme>(
     ensures same_scheme { C.meaning scheme.new ≡ C.meaning scheme.old }
     ensures same_work { work.new ≡ work.old }
 {
-    if is_of_zeros(header) {
+    if zeros_said(header) {
         copy_zeros(die, work, book, seq, spare, page, header)
     } else {
         copy_bytes(die, scheme, work, book, seq, spare, page, place, header)

@@ -21,7 +21,7 @@ pub struct LiveRecord {
 }
 
 /// Whether an entry names this slot.
-fn is_named(entry: Option<Entry>, place: Place) -> bool
+pub(crate) fn is_named(entry: Option<Entry>, place: Place) -> bool
     ensures { result ≡ names_slot entry place }
 {
     match entry {

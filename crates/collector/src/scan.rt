@@ -10,29 +10,29 @@ ghost use Rattle.page_codec.specs.Puts.{first_slot};
 ghost use Rattle.page_codec.specs.Seen.{seen_page};
 ghost use Rattle.page_codec.specs.Sizes.{Serves, ServesScheme};
 ghost use Rattle.collector.specs.Store.{Store, geometry_of, store};
-ghost use Rattle.collector.specs.Inside.{Begun, Stands, StandsAt, EndsAt, TurnEnds, names_place};
+ghost use Rattle.collector.specs.Inside.{Begun, Stands, StandsAt, EndsAt, TurnEnds};
+ghost use Rattle.collector.specs.Named.{names_slot};
 
-use crate::copy::{copy_record, is_of_zeros};
+use crate::again::says_zeros;
+use crate::copy::copy_record;
+use crate::live::is_named;
 use crate::moves::Move;
 use block_state::Book;
 use cell_die::{Die, DieFault};
 use page_codec::{Place, PutFault, Seen, Work, scan};
-use sector_map::{Entry, SectorMap};
+use sector_map::SectorMap;
 use striped::Scheme;
 use zero_count::Header;
 
-/// Whether the map names this place for the sector of a header.
-fn is_named(map: &SectorMap, header: &Header, place: Place) -> bool
-    ensures named { result ≡ names_place (entry_at map.now header.now.sector) place }
+/// Whether the record of a header in a slot is live.
+fn is_live(map: &SectorMap, header: &Header, place: Place) -> bool
+    ensures named { result ≡ names_slot (entry_at map.now header.now.sector) place }
     ensures small { header.now.sector < 2 ^ 32 }
 {
     if header.sector >= map.sectors() {
         return false;
     }
-    match map.get(header.sector) {
-        Some(Entry::Held(at) | Entry::Zeros(at)) => at.page == place.page && at.slot == place.slot,
-        None => false,
-    }
+    is_named(map.get(header.sector), place)
 }
 
 /// Copies the record in a slot of the victim, where it is live, and answers how many copies there are then.
@@ -63,7 +63,7 @@ fn copy_slot<D: Die, C: Scheme>(
     let Some(header) = header else {
         return Ok(copies);
     };
-    if !is_named(map, &header, place) {
+    if !is_live(map, &header, place) {
         return Ok(copies);
     }
     let page = spare * book.pages() + copies;
@@ -71,7 +71,7 @@ fn copy_slot<D: Die, C: Scheme>(
         Ok(()) => {
             moves[copies as usize] = Move {
                 sector: header.sector,
-                zeros: is_of_zeros(&header),
+                zeros: says_zeros(&header),
             };
             Ok(copies + 1)
         }

@@ -5,9 +5,8 @@ use Rattle.block_state.specs.declared.state.State.TheVariants.{Active}
 use Rattle.block_state.specs.State.{is_closed}
 use Rattle.block_state.specs.Book.{BookValue, state_at, live_at, with_state, with_live}
 use Rattle.collector.specs.Settles.{NamesMoves, move_at}
-use Rattle.collector.proofs.Books.{state_here, live_here}
+use Rattle.collector.proofs.Books.{state_here, live_here, spare_within}
 use Rattle.collector.proofs.BooksSettled.{live_twice, names_more}
-use Rattle.collector.proofs.Sparing.{spare_within}
 use Rattle.collector.proofs.settle.settle.Goals as goal
 
 pub loop-i-preserved : goal.loop-i-preserved
