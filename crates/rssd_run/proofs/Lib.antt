@@ -15,4 +15,10 @@ pub mod Sessions
 pub mod Fields
 pub mod Runs
 pub mod Errors
+pub mod ReadScript
+pub mod BlankCells
+pub mod HeadLimits
+pub mod BlankStart
+pub mod Calm
+pub mod Top
 pub mod Rows

@@ -15,3 +15,8 @@ pub mod Run
 pub mod Held
 pub mod Steps
 pub mod Shows
+pub mod ReadScript
+pub mod Schemes
+pub mod Replays
+pub mod Top
+pub mod Calm
