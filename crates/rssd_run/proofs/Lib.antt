@@ -20,5 +20,5 @@ pub mod BlankCells
 pub mod HeadLimits
 pub mod BlankStart
 pub mod Calm
-pub mod Top
+pub mod Completeness
 pub mod Rows
