@@ -20,5 +20,6 @@ pub mod BlankCells
 pub mod HeadLimits
 pub mod BlankStart
 pub mod Calm
+pub mod Headline
 pub mod Completeness
 pub mod Rows

@@ -20,3 +20,4 @@ pub mod Schemes
 pub mod Replays
 pub mod Top
 pub mod Calm
+pub mod Headline

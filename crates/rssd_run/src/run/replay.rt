@@ -1,5 +1,5 @@
 //! A replay: the lines of a script are run on a blank die that is mounted first, for each scheme of the table.
-ghost use Rattle.std.specs.Prelude.{◌≡◌, ℕ, List, Option, true, false, OnOk, IfOk, IsErrOf, IsOkUnless};
+ghost use Rattle.std.specs.Prelude.{◌≡◌, ℕ, List, [], ◌∷◌, ◌++◌, Option, true, false, OnOk, IfOk, IsErrOf, IsOkUnless};
 ghost use Rattle.std.specs.List.{All};
 ghost use Rattle.die_image.specs.declared.head.ImageHead.{ImageHead as Head};
 ghost use Rattle.die_image.specs.Image.{is_within_limits, shape_of};
@@ -8,7 +8,8 @@ ghost use Rattle.mem_die.specs.MemState.{mem_state};
 ghost use Rattle.rssd_io.specs.Faults.{Rose};
 ghost use Rattle.rssd_script.specs.declared.lines.Line.{Line as Spelled};
 ghost use Rattle.rssd_run.specs.Calm.{is_arming, IsCalm};
-ghost use Rattle.rssd_run.specs.Replays.{Replays, ReplaysFront, StartsBlank};
+ghost use Rattle.rssd_run.specs.Headline.{AllKeepHeadline};
+ghost use Rattle.rssd_run.specs.Replays.{Replays, ReplaysFront, StartsBlank, numbers_named};
 ghost use Rattle.rssd_run.specs.Schemes.{meaning_named};
 ghost use Rattle.rssd_run.specs.Shows.{CanStep, session_of};
 
@@ -170,6 +171,20 @@ pub fn replay<R: Replaying, O: Sink>(
         SchemeName::Ham512 => replay_made::<R, _, O>(alloc, head, sevens(alloc, 512), lines, out),
     }
 }
+
+/// Each line of a replay keeps the headline: its reply is one of a plain sector array where only the write or trim under way at
+/// a cut is afterwards old or new; no cell's charge falls between erases of its block; a second write is declined exactly where
+/// no cells above the old carry the sector; a powered write fails only where die faults rose.
+pub fn replays_keep_the_headline()
+    ensures { (head : Head) (lines : List Spelled) (written after : Option (List ℕ)) (given : Replays head lines written after)
+        → AllKeepHeadline (numbers_named head) given.run.events }
+{}
+
+/// So does each line of a replay whose sink failed, up to the line whose reply it did not take whole.
+pub fn cut_off_replays_keep_the_headline()
+    ensures { (head : Head) (lines : List Spelled) (written after : Option (List ℕ)) (given : ReplaysFront head lines written after)
+        → AllKeepHeadline (numbers_named head) (given.run.events ++ given.run.last ∷ []) }
+{}
 
 /// Where no line of a replay is `cut` or `failread`, no reply is `fault` or `no spare`, and none is `off` before one is `no memory`.
 pub fn replays_without_failures_are_calm()

@@ -1,6 +1,7 @@
 //! The schemes of the table, made of their codes. Each takes a unit's memory, and those of coset codes also that of their columns.
 ghost use Rattle.std.specs.Prelude.{◌≡◌, ◌≤◌, IfOk};
-ghost use Rattle.rssd_run.specs.Schemes.{plain_meaning, pair_meaning, coset_meaning, flip_meaning, seven_meaning, table_of_one};
+ghost use Rattle.die_image.specs.declared.scheme.SchemeName.{SchemeName as Name};
+ghost use Rattle.rssd_run.specs.Schemes.{plain_meaning, pair_meaning, coset_meaning, flip_meaning, seven_meaning, table_of_one, meaning_named, HasRow};
 
 use coset_code::{Columns, Coset, CosetRefusal};
 use hamming_seven::HammingSeven;
@@ -92,3 +93,8 @@ pub fn sevens(alloc: Global, sector_bytes: u32) -> Result<Sevens, AllocError>
         3,
     )
 }
+
+/// The numbers of each scheme are those of its row in the table.
+pub fn schemes_have_the_rows_of_the_table()
+    ensures { (name : Name) → HasRow name (meaning_named name) }
+{}
