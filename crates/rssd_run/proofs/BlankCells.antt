@@ -1,10 +1,9 @@
 -- A die with no charged cell: no header stands there. So its cells are sound, no block has a live record, and all sectors are zeros.
-use Rattle.std.proofs.Common.{◌≡◌, inl, inr, ℕ, zero, suc, ◌+◌, ◌-◌, ◌*◌, ◌<◌, ◌≤◌, Bool, true, false, List, [], ◌∷◌, map, take, drop, length, replicate, get_or, Option, Some, None, slice_index, if◌then◌else◌, refl, sym, ap, ap₂, ◌∙◌, arith, subst, cond, zero-add}
+use Rattle.std.proofs.Common.{◌≡◌, inl, inr, ℕ, zero, suc, ◌+◌, ◌-◌, ◌*◌, ◌<◌, ◌≤◌, Bool, true, false, List, [], ◌∷◌, map, take, drop, length, replicate, get_or, Option, Some, None, if◌then◌else◌, refl, sym, ap, ap₂, ◌∙◌, arith, subst}
 use Rattle.std.specs.List.{count_by, filter_map, range_with_len, cons_option}
 use Rattle.std.proofs.lemmas.Bool.{cases_lt}
 use Rattle.std.proofs.lemmas.List.{get_or_past, take-replicate, drop-replicate}
 use Rattle.std.proofs.lemmas.List.FromFn.{length-range_with_len}
-use Rattle.std.proofs.lemmas.Option.{none-some}
 use Rattle.zero_count.specs.declared.Header.{Header}
 use Rattle.zero_count.specs.HeaderWord.{IsHeader, header_of, spelling, is_valid}
 use Rattle.zero_count.proofs.ValidWords.{valid_parts}
@@ -15,7 +14,7 @@ use Rattle.spare_gate.specs.Slots.{word_at}
 use Rattle.striped.specs.Meaning.{Decoding}
 use Rattle.page_codec.specs.declared.place.Place.{Place}
 use Rattle.page_codec.specs.Geometry.{Geometry, page_count, spare_at}
-use Rattle.page_codec.specs.Records.{Placed, may_hold, below_sectors, header_in, record_in, if_committed, committed_in, of_sector, places, records_of, newest, live_record}
+use Rattle.page_codec.specs.Records.{may_hold, below_sectors, header_in, record_in, if_committed, committed_in, of_sector, places, records_of, newest, live_record}
 use Rattle.page_codec.specs.Sectors.{said_by, stored, zero_sector}
 use Rattle.page_codec.specs.Sound.{IsSound, live_count, stands_in}
 use Rattle.page_codec.proofs.Within.{header_valid}

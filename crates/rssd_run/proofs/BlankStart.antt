@@ -20,7 +20,7 @@ use Rattle.rssd_run.specs.Schemes.{meaning_named, HasRow}
 use Rattle.rssd_run.specs.Shows.{Holding, Mounted, SessionValue, ShowsHolding, Starts, HasNumbers}
 use Rattle.rssd_run.specs.Replays.{plan_of, numbers_named, zero_sectors, StartsBlank}
 use Rattle.rssd_run.proofs.BlankCells.{IsBlank, blank_counts, blank_sound, blank_stored}
-use Rattle.rssd_run.proofs.HeadLimits.{HeadLimits, head_limits, head_fits, named_row}
+use Rattle.rssd_run.proofs.HeadLimits.{head_limits, head_fits, named_row}
 
 -- a new die of a head that is within the limits
 record IsFresh (head : ImageHead) (die : DieState) : Type 0 where

@@ -3,13 +3,13 @@ use Rattle.std.proofs.Common.{◌≡◌, inl, inr, ℕ, true, false, All, List, 
 use Rattle.rssd_core.specs.SectorArray.{written, trimmed}
 use Rattle.std.specs.List.{AllByRecursion}
 use Rattle.std.proofs.lemmas.List.Elements.{All-from_recursion, All-head, All-tail}
-use Rattle.cell_die.specs.DieState.{DieState, Failures}
-use Rattle.cell_die.specs.Calls.{Passed, IsQuiet, WhilePowered, Nearer}
+use Rattle.cell_die.specs.DieState.{Failures}
+use Rattle.cell_die.specs.Calls.{WhilePowered, Nearer}
 use Rattle.page_codec.specs.Sound.{IsSound}
 use Rattle.rssd_script.specs.declared.lines.Line.{Line}
 use Rattle.rssd_script.specs.declared.lines.Line.TheVariants.{Write, Read, Trim, Idle, Cut, FailRead, Mount, Stat}
 use Rattle.rssd_script.specs.declared.replies.Reply.{Reply}
-use Rattle.rssd_script.specs.declared.replies.Reply.TheVariants.{First, Second, Declined, Bytes, Done, Moves, Stat as Counts, Range, Long, Off as SaysOff, Fault, Spent, NoSpare, NoMemory}
+use Rattle.rssd_script.specs.declared.replies.Reply.TheVariants.{First, Second, Declined, Bytes, Done, Moves, Stat as Counts, Range, Long, Fault, Spent, NoSpare, NoMemory}
 use Rattle.rssd_core.specs.DeviceValue.{Numbers, DeviceView}
 use Rattle.rssd_core.specs.Failures.{cut_of, read_failure_of, cut_in, read_in}
 use Rattle.rssd_run.specs.ArrayWithCuts.{ArrayState, On, Off, Row, OnRow, WriteRow, TrimRow, ReadRow, IdleRow, ArmRow, StatRow, MountRow}
@@ -18,7 +18,7 @@ use Rattle.rssd_run.specs.Armed.{IsArming}
 use Rattle.rssd_run.specs.Step.{IsStep}
 use Rattle.rssd_run.specs.Run.{IsRun, lines_of}
 use Rattle.rssd_run.specs.Calm.{is_arming, NeverFails, OffAfterNoMemory, IsCalm}
-use Rattle.rssd_run.specs.Replays.{IsBlankStart, numbers_named, zero_sectors, Replays}
+use Rattle.rssd_run.specs.Replays.{IsBlankStart, numbers_named, Replays}
 use Rattle.die_image.specs.declared.head.ImageHead.{ImageHead}
 
 -- nothing is armed, and the cells are sound

@@ -1,6 +1,5 @@
 -- Where words and script are in their grammars and no count of faults rose, only two statuses are left.
-use Rattle.std.proofs.Common.{◌≡◌, ◌⊎◌, inl, inr, ℕ, ◌<◌, ◌≤◌, List, length, Option, Some, IfSome, refl, arith, subst}
-use Rattle.rssd_script.specs.Scripts.{most_bytes}
+use Rattle.std.proofs.Common.{inl, inr, ℕ, List, Option, IfSome, refl, arith, subst}
 use Rattle.rssd_script.proofs.Unique.{no_bad}
 use Rattle.rssd_run.specs.declared.status.Status.{Status}
 use Rattle.rssd_run.specs.declared.status.Status.TheVariants.{Done, BadWords, BadScript, ReadFault, WriteFault, OutOfMemory}

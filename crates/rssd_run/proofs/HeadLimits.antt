@@ -1,6 +1,6 @@
 -- The limits of a head, for each scheme of the table, as those of its die and of its device.
-use Rattle.std.proofs.Common.{◌≡◌, ℕ, ◌+◌, ◌-◌, ◌*◌, ◌<◌, ◌≤◌, true, refl, sym, ap, ◌∙◌, arith, lit≤}
-use Rattle.std.specs.Prelude.{◌&&◌, nat_le}
+use Rattle.std.proofs.Common.{◌≡◌, ℕ, ◌+◌, ◌-◌, ◌*◌, ◌≤◌, true, refl, sym, ap, arith, lit≤}
+use Rattle.std.specs.Prelude.{nat_le}
 use Rattle.std.proofs.lemmas.Bool.{leb-true}
 use Rattle.mem_die.specs.Limits.{IsWithinLimits as FitsDie}
 use Rattle.die_image.specs.declared.head.ImageHead.{ImageHead}

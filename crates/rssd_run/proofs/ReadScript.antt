@@ -1,5 +1,5 @@
 -- What a reader has read of a source's text, and what its end says of the whole text.
-use Rattle.std.proofs.Common.{◌≡◌, ℕ, ◌+◌, ◌-◌, ◌<◌, ◌≤◌, List, [], ◌++◌, length, take, Option, None, Some, Result, Ok, Err, MatchResult, OnOk, refl, sym, ap, ◌∙◌, arith, subst, length-append, append-nil}
+use Rattle.std.proofs.Common.{◌≡◌, ℕ, ◌-◌, ◌<◌, ◌≤◌, List, [], ◌++◌, length, Option, None, Some, refl, sym, ap, ◌∙◌, arith, subst, length-append, append-nil}
 use Rattle.std.specs.Io.KnownBytes.{Consumes, IsAtEnd}
 use Rattle.std.proofs.KnownBytes.{Consumes-nil, Consumes-trans}
 use Rattle.rssd_script.specs.declared.lines.Line.{Line}
@@ -10,7 +10,7 @@ use Rattle.rssd_script.specs.declared.error.ScriptError.TheVariants.{TooLong, Ba
 use Rattle.rssd_script.specs.Script.{IsWithinGrammar}
 use Rattle.rssd_script.specs.Scripts.{Reads, Refuses, most_bytes}
 use Rattle.rssd_script.specs.Readers.{HasRead}
-use Rattle.rssd_run.specs.Reading.{IsText, IsAllOf}
+use Rattle.rssd_run.specs.Reading.{IsText}
 use Rattle.rssd_run.specs.ReadScript.{ReadsAll, IsNoScript, HasReadAll, HasReadSo}
 use Rattle.rssd_run.specs.Shows.{CanStep}
 

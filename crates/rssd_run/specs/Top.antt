@@ -1,5 +1,5 @@
 -- What the top call does for `replay`, by the status that it answers.
-use Rattle.std.specs.Prelude.{◌≡◌, ◌⊎◌, ◌<◌, ◌≤◌, List, ℕ, [], length, Option, Some, Result, Ok, Err, true, IfSome}
+use Rattle.std.specs.Prelude.{◌≡◌, ◌⊎◌, ◌<◌, ◌≤◌, List, ℕ, [], length, Some, Result, Ok, Err, true, IfSome}
 use Rattle.std.specs.Io.KnownBytes.{Keeps}
 use Rattle.die_image.specs.declared.head.ImageHead.{ImageHead}
 use Rattle.die_image.specs.Image.{is_within_limits}
