@@ -9,3 +9,4 @@ pub mod OfferLemmas
 pub mod OverLemmas
 pub mod SumLemmas
 pub mod WordLemmas
+pub mod WordShapes

@@ -17,4 +17,11 @@ pub mod Answered
 pub mod Fields
 pub mod Runs
 pub mod Errors
+pub mod ReadScript
+pub mod BlankCells
+pub mod HeadLimits
+pub mod BlankStart
+pub mod Calm
+pub mod Headline
+pub mod Completeness
 pub mod Rows

@@ -21,7 +21,7 @@ record Limits (head : ImageHead) : Type 0 where
   pub sectors : head.sectors + 1 ≤ (head.blocks - 1) * head.pages
   pub reuse : head.reuse_max ≤ head.blocks
 
-all_parts : (a b c d e f g h : Bool) → (a && b && c && d && e && f && g && h) ≡ true
+pub all_parts : (a b c d e f g h : Bool) → (a && b && c && d && e && f && g && h) ≡ true
     → (a ≡ true) × (b ≡ true) × (c ≡ true) × (d ≡ true) × (e ≡ true) × (f ≡ true) × (g ≡ true) × (h ≡ true)
 all_parts a b c d e f g h all =
     let to_g = and_parts (a && b && c && d && e && f && g) h all in

@@ -16,3 +16,9 @@ pub mod Held
 pub mod Steps
 pub mod Shows
 pub mod Played
+pub mod ReadScript
+pub mod Schemes
+pub mod Replays
+pub mod Top
+pub mod Calm
+pub mod Headline

@@ -3,6 +3,7 @@
 
 mod answer;
 mod lines;
+mod refusal;
 mod replay;
 pub mod run;
 mod session;

@@ -7,7 +7,11 @@ ghost use Rattle.rssd_run.specs.Run.{RunsSession, CutsOffSession};
 ghost use Rattle.rssd_run.specs.Shows.{SessionValue, CanStep, HasNumbers, StepsSession};
 
 pub mod line;
+pub mod replay;
+pub mod schemes;
+pub mod script;
 pub mod session;
+pub mod top;
 
 use rssd_io::{Sink, WriteFault};
 use rssd_script::{Line, Reply, print_reply};

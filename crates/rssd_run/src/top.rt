@@ -1,17 +1,15 @@
 //! The top call: words and input to output and a status. In this form it knows one command, `replay plain16`.
-ghost use Rattle.std.specs.Prelude.{◌≡◌, ◌++◌, ◌∷◌, [], map, codes, decimal, string_bytes, IfSome, IfNone};
+ghost use Rattle.std.specs.Prelude.{◌≡◌, map, string_bytes, IfSome, IfNone};
 ghost use Rattle.rssd_run.specs.declared.status.Status.{Status as How};
-ghost use Rattle.rssd_run.specs.Statuses.{IsReplay, SpellNoReplay, Says, TookLine, RefusesSo, bad_line, number_of, status_after};
+ghost use Rattle.rssd_run.specs.Statuses.{IsReplay, SpellNoReplay, Says, number_of, status_after};
 
 use crate::lines::read_lines;
+use crate::refusal::{refuse, refuse_script};
 use crate::replay::{ReplayError, replay};
 use crate::status::Status;
 use crate::text::{TextError, read_text};
-use arrayvec::ArrayVec;
 use die_image::{ImageHead, SchemeName};
-use itoa::Buffer;
 use rssd_io::{Sink, Source};
-use rssd_script::ScriptError;
 use rssd_words::{Command, read_words};
 use std::alloc::Global;
 
@@ -27,42 +25,6 @@ fn replay_head(words: &[String]) -> Option<ImageHead>
         Some(head)
     } else {
         None
-    }
-}
-
-/// The line of refusal for a bad line.
-fn bad_line(line: u32) -> ArrayVec<u8, 24>
-    ensures { result.items ≡ bad_line line }
-{
-    let mut number = Buffer::new();
-    let mut text = ArrayVec::new();
-    let _ = text.try_extend_from_slice(b"bad line ");
-    let _ = text.try_extend_from_slice(number.format(line).as_bytes());
-    let _ = text.try_extend_from_slice(b"\n");
-    text
-}
-
-/// Gives a line of refusal to `out`. A fault there changes nothing of the answer.
-fn refuse<O: Sink>(out: &mut O, line: &[u8])
-    ensures { TookLine (O.written out.old) (O.written out.new) (O.faults out.old) (O.faults out.new) line.now }
-{
-    let _ = out.give(line);
-}
-
-/// Refuses a script.
-fn refuse_script<O: Sink>(out: &mut O, why: ScriptError) -> Status
-    ensures { RefusesSo why result (O.written out.old) (O.written out.new) (O.faults out.old) (O.faults out.new) }
-{
-    match why {
-        ScriptError::TooLong => {
-            refuse(out, b"script too long\n");
-            Status::BadScript
-        }
-        ScriptError::BadLine(line) => {
-            refuse(out, &bad_line(line));
-            Status::BadScript
-        }
-        ScriptError::OutOfMemory => Status::OutOfMemory,
     }
 }
 

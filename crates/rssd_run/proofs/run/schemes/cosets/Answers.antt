@@ -1,0 +1,14 @@
+-- The scheme that was made has the codes that were given.
+use Rattle.std.proofs.Common.{◌∙◌, ap, take, List, ℕ, Result, Ok, Err, IfOk}
+use Rattle.striped.specs.Layouts.{meaning_of}
+use Rattle.coset_code.specs.Code.{coset_message}
+use Rattle.rssd_run.specs.Schemes.{coset_meaning}
+use Rattle.rssd_run.proofs.run.schemes.cosets.Goals as goal
+
+if_ok : {T E : Type 0} (r : Result T E) (P Q : T → Type 0) → IfOk r P → ((x : T) → P x → Q x) → IfOk r Q
+if_ok (Ok x) P Q p f = f x p
+if_ok (Err e) P Q p f = tt
+
+pub returns : goal.returns
+unfolding coset_meaning
+returns c = if_ok c.new-2.result _ _ c.new-2.ensures (λ s p. p ∙ ap (λ (table : List ℕ). meaning_of 128 144 288 c.args.sector_bytes 2 (take 128) (coset_message 128 table)) c.in_ok-code.ensures)

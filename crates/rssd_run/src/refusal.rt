@@ -1,0 +1,45 @@
+//! The lines of refusal: what `out` is told before a status that refuses words or a script.
+ghost use Rattle.std.specs.Prelude.{◌≡◌};
+ghost use Rattle.rssd_run.specs.Statuses.{TookLine, RefusesSo, bad_line};
+
+use crate::status::Status;
+use arrayvec::ArrayVec;
+use itoa::Buffer;
+use rssd_io::Sink;
+use rssd_script::ScriptError;
+
+/// The line of refusal for a bad line.
+fn bad_line(line: u32) -> ArrayVec<u8, 24>
+    ensures { result.items ≡ bad_line line }
+{
+    let mut number = Buffer::new();
+    let mut text = ArrayVec::new();
+    let _ = text.try_extend_from_slice(b"bad line ");
+    let _ = text.try_extend_from_slice(number.format(line).as_bytes());
+    let _ = text.try_extend_from_slice(b"\n");
+    text
+}
+
+/// Gives a line of refusal to `out`. A fault there changes nothing of the answer.
+pub fn refuse<O: Sink>(out: &mut O, line: &[u8])
+    ensures { TookLine (O.written out.old) (O.written out.new) (O.faults out.old) (O.faults out.new) line.now }
+{
+    let _ = out.give(line);
+}
+
+/// Refuses a script.
+pub fn refuse_script<O: Sink>(out: &mut O, why: ScriptError) -> Status
+    ensures { RefusesSo why result (O.written out.old) (O.written out.new) (O.faults out.old) (O.faults out.new) }
+{
+    match why {
+        ScriptError::TooLong => {
+            refuse(out, b"script too long\n");
+            Status::BadScript
+        }
+        ScriptError::BadLine(line) => {
+            refuse(out, &bad_line(line));
+            Status::BadScript
+        }
+        ScriptError::OutOfMemory => Status::OutOfMemory,
+    }
+}
