@@ -102,9 +102,12 @@ module _ (g : Geometry) (d : Decoding) (page : ℕ) (h : Header) (row : List ℕ
   pub at_hand_holds : (table : List (Option Entry)) (book : BookValue) → Holds g old (store new table book (old.seq + 1))
   at_hand_holds table book =
       let free = free_spare g old.die.cells old.book old.table old.seq p.block p.fill p.tables p.active in
-      put_holds g (first_slot (next_page g p.block p.fill)) h old (store new table book (old.seq + 1)) p.next.put p.next.header p.next.fresh p.kept p.drawn refl (omega (arith, p.small))
-      (free.0, free.1, free_after g (first_slot (next_page g p.block p.fill)) h old.die.cells new.cells (next_record g p.block p.fill h old.die.cells new.cells p.next) free.0
-          (λ e. free.2 (sym e ∙ block_of_next g p.block p.fill p.next.active.room)) free.3)
+      put_holds g (first_slot (next_page g p.block p.fill)) h old (store new table book (old.seq + 1)) p.next.put p.next.header p.next.fresh p.kept p.drawn refl (omega (arith, p.small)) (
+        free.0,
+        free.1,
+        free_after g (first_slot (next_page g p.block p.fill)) h old.die.cells new.cells (next_record g p.block p.fill h old.die.cells new.cells p.next) free.0
+            (λ e. free.2 (sym e ∙ block_of_next g p.block p.fill p.next.active.room)) free.3,
+      )
 
   -- the rows, by the gate
   rows_charged : next_gate g p.block p.fill new.cells ≡ true → stored g d new.cells ≡ slice_set (stored g d old.die.cells) h.sector row

@@ -104,8 +104,7 @@ unfolding live_count
 may_drop g cells book table seq sector sized true_tables None e = tt
 may_drop g cells book table seq sector sized true_tables (Some x) e =
     let within = room.live_within g cells sector x (omega (arith, sized.two_slots)) e in
-    let inside : block_of g x.place.page < g.blocks = block_below g x.place.page sized.pages within.0 in
-    (
+    let inside : block_of g x.place.page < g.blocks = block_below g x.place.page sized.pages within.0 in (
       subst (λ (n : ℕ). block_of g x.place.page < n) (sym true_tables.sizes.blocks) inside,
       subst (λ (n : ℕ). 0 < n) (sym (true_tables.live_counts (block_of g x.place.page) inside))
           (one_passes (λ s. stands_in g (block_of g x.place.page) (live_record g cells s)) g.sectors sector (live_within g cells sector x e)

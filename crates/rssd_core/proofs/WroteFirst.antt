@@ -23,7 +23,7 @@ use Rattle.page_codec.specs.Records.{header_in, live_record}
 use Rattle.page_codec.specs.Sound.{IsSound}
 use Rattle.page_codec.specs.TrueBook.{IsTrueBook, live_map}
 use Rattle.mount_scan.proofs.TrueRun.{true_book_by_run}
-use Rattle.collector.specs.Store.{Store, store, IsTrueStore} 
+use Rattle.collector.specs.Store.{Store, store, IsTrueStore}
 use Rattle.collector.specs.Store as stores
 use Rattle.collector.specs.Effects as effects
 use Rattle.rssd_core.specs.declared.device.Placed.TheVariants.{First, Declined}

@@ -11,8 +11,8 @@ ghost use Rattle.rssd_core.specs.Placing.{OpenEnds};
 
 use crate::collecting::collect_page;
 use block_state::{Book, State};
-use collector::Moves;
 use cell_die::{Die, DieFault};
+use collector::Moves;
 use page_alloc::{NextPage, next};
 use page_codec::{PutFault, Work};
 use sector_map::SectorMap;
@@ -73,7 +73,9 @@ pub fn open_page<D: Die, C: Scheme>(
             Err(DieFault) => Err(PutFault::Change),
         },
         NextPage::Collect { victim, spare } => {
-            collect_page(die, scheme, work, map, book, seq, moves, moved, victim, spare)
+            collect_page(
+                die, scheme, work, map, book, seq, moves, moved, victim, spare,
+            )
         }
     }
 }

@@ -8,8 +8,8 @@ ghost use Rattle.rssd_core.specs.Steps.{IsSized};
 ghost use Rattle.rssd_core.specs.Placing.{OpenEnds};
 
 use block_state::Book;
-use collector::{Moves, collect};
 use cell_die::Die;
+use collector::{Moves, collect};
 use page_codec::{PutFault, Work};
 use sector_map::SectorMap;
 use striped::Scheme;

@@ -1,14 +1,14 @@
 //! The device: numbered sectors on the pages of a die. Knows pages, and nothing of scripts.
 #![tactic(auto)]
 
-pub mod device;
 mod at_hand;
+mod clean_page;
 mod collecting;
+pub mod device;
 mod ftl;
 mod idle;
-mod clean_page;
-mod over;
 pub mod mounting;
+mod over;
 mod page;
 mod placing;
 mod row;

@@ -7,12 +7,12 @@ ghost use Rattle.rssd_core.specs.Steps.{IsSized};
 ghost use Rattle.rssd_core.specs.Placing.{CleanEnds, PlaceEnds};
 
 use crate::at_hand::put_sector;
-use crate::device::Placed;
 use crate::clean_page::open_page;
+use crate::device::Placed;
 use crate::over::put_over;
 use block_state::Book;
-use collector::Moves;
 use cell_die::{Die, DieFault};
+use collector::Moves;
 use page_codec::{PutFault, Work};
 use reuse_pool::offer;
 use sector_map::SectorMap;
@@ -95,13 +95,17 @@ pub fn place<D: Die, C: Scheme>(
     ensures same_room { moves.new ≡ moves.old }
 {
     let Some(unit) = offer(book) else {
-        put_clean(die, scheme, work, map, book, seq, moves, moved, sector, bytes)?;
+        put_clean(
+            die, scheme, work, map, book, seq, moves, moved, sector, bytes,
+        )?;
         return Ok(Placed::First);
     };
     match put_over(die, scheme, work, map, book, seq, unit, sector, bytes) {
         Ok(Carry::Carried) => Ok(Placed::Second),
         Ok(Carry::Declined) => {
-            match put_clean(die, scheme, work, map, book, seq, moves, moved, sector, bytes) {
+            match put_clean(
+                die, scheme, work, map, book, seq, moves, moved, sector, bytes,
+            ) {
                 Ok(()) => Ok(Placed::Declined),
                 Err(fault) => Err(fault),
             }

@@ -41,5 +41,8 @@ returns-in-Err-clause-holds g c = torn_holds (geometry_of (g.D.Die.state c.args.
     (wipe_erases (geometry_of (g.D.Die.state c.args.die.now).shape (g.C.Scheme.meaning c.args.scheme.now) (length c.args.map.now)) c.in-Wipe.block (store (g.D.Die.state c.args.die.now) c.args.map.now c.args.book.now c.args.seq.now) (g.D.Die.state c.erase.new.self) c.requires.sized (shape_is (g.D.Die.state c.args.die.now).shape (g.C.Scheme.meaning c.args.scheme.now) (length c.args.map.now) c.args.work.now c.requires.die c.requires.scheme) c.erase.ensures.kept (g.met.D.Die.shaped c.args.die.now) (g.met.D.Die.shaped c.erase.new.self) c.erase.ensures.only_block c.requires.tables c.in-Wipe.ensures) c.in-Err.ensures.in_part c.in-Err.ensures.failed.change_faults
 
 pub returns-in-Err-clause-ends : goal.returns-in-Err-clause-ends
-returns-in-Err-clause-ends g c = (wipe_failed (geometry_of (g.D.Die.state c.args.die.now).shape (g.C.Scheme.meaning c.args.scheme.now) (length c.args.map.now)) (g.C.Scheme.meaning c.args.scheme.now).decoding c.in-Wipe.block (store (g.D.Die.state c.args.die.now) c.args.map.now c.args.book.now c.args.seq.now) (g.D.Die.state c.erase.new.self)
-    (wipe_erases (geometry_of (g.D.Die.state c.args.die.now).shape (g.C.Scheme.meaning c.args.scheme.now) (length c.args.map.now)) c.in-Wipe.block (store (g.D.Die.state c.args.die.now) c.args.map.now c.args.book.now c.args.seq.now) (g.D.Die.state c.erase.new.self) c.requires.sized (shape_is (g.D.Die.state c.args.die.now).shape (g.C.Scheme.meaning c.args.scheme.now) (length c.args.map.now) c.args.work.now c.requires.die c.requires.scheme) c.erase.ensures.kept (g.met.D.Die.shaped c.args.die.now) (g.met.D.Die.shaped c.erase.new.self) c.erase.ensures.only_block c.requires.tables c.in-Wipe.ensures) c.in-Err.ensures.in_part c.in-Err.ensures.failed c.requires.tables c.in-Wipe.ensures, refl)
+returns-in-Err-clause-ends g c = (
+  wipe_failed (geometry_of (g.D.Die.state c.args.die.now).shape (g.C.Scheme.meaning c.args.scheme.now) (length c.args.map.now)) (g.C.Scheme.meaning c.args.scheme.now).decoding c.in-Wipe.block (store (g.D.Die.state c.args.die.now) c.args.map.now c.args.book.now c.args.seq.now) (g.D.Die.state c.erase.new.self)
+      (wipe_erases (geometry_of (g.D.Die.state c.args.die.now).shape (g.C.Scheme.meaning c.args.scheme.now) (length c.args.map.now)) c.in-Wipe.block (store (g.D.Die.state c.args.die.now) c.args.map.now c.args.book.now c.args.seq.now) (g.D.Die.state c.erase.new.self) c.requires.sized (shape_is (g.D.Die.state c.args.die.now).shape (g.C.Scheme.meaning c.args.scheme.now) (length c.args.map.now) c.args.work.now c.requires.die c.requires.scheme) c.erase.ensures.kept (g.met.D.Die.shaped c.args.die.now) (g.met.D.Die.shaped c.erase.new.self) c.erase.ensures.only_block c.requires.tables c.in-Wipe.ensures) c.in-Err.ensures.in_part c.in-Err.ensures.failed c.requires.tables c.in-Wipe.ensures,
+  refl,
+)
