@@ -12,6 +12,7 @@ mod over;
 mod page;
 mod placing;
 mod row;
+mod trim;
 pub mod whole;
 
 pub use ftl::{Ftl, FtlError, MountError, Placed, Plan, Refused, mount};
