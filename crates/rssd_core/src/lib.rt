@@ -4,6 +4,7 @@
 mod at_hand;
 mod clean_page;
 mod collecting;
+mod contract;
 pub mod device;
 mod ftl;
 mod idle;
