@@ -30,7 +30,7 @@ idle_plus d base n old new changes reads w = record {
   reads_at_most = w.reads_at_most;
 }
 
-moves_plus : (d : Numbers) (base : Tallies) (old new : DeviceView) (k : ℕ) → IdleMoves d old new k → IdleMoves d (plus base old) (plus base new) k
+pub moves_plus : (d : Numbers) (base : Tallies) (old new : DeviceView) (k : ℕ) → IdleMoves d old new k → IdleMoves d (plus base old) (plus base new) k
 moves_plus d base old new k m = (m.0, m.1, m.2, m.3, m.4, record { distinct = m.5.distinct; moved = m.5.moved; others = m.5.others })
 
 pub bounded : {changes reads : ℕ} {old new : DieState} → PassedWithin changes reads old new → Went changes reads (Unit {0}) old new

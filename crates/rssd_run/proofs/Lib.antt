@@ -12,6 +12,8 @@ pub mod CommandSteps
 pub mod Stepped
 pub mod Refused
 pub mod Sessions
+pub mod PlayedSteps
+pub mod Answered
 pub mod Fields
 pub mod Runs
 pub mod Errors

@@ -107,14 +107,14 @@ is_spent d e here near few spent reply = record {
 
 -- ---- on a device that runs
 
-module _ (d : Numbers) (old : DeviceValue) (kept : IsKept d old) (running : old.stopped ≡ false) where
-  -- a line that leaves each view as it is
-  still_steps : (line : Line) (reply : Reply) → ((base : Tallies) → Stays d (on d base old) line reply) → Steps d line reply old old
-  still_steps line reply stays =
-      runs_on d line reply old old kept running (λ calm base. stays_step d (on d base old) line reply refl (λ o. kept.book running) (omega arith) (omega arith) (omega arith) (stays base))
+-- a line that leaves each view as it is
+pub still_steps : (d : Numbers) (old : DeviceValue) → IsKept d old → old.stopped ≡ false → (line : Line) (reply : Reply) → ((base : Tallies) → Stays d (on d base old) line reply) → Steps d line reply old old
+still_steps d old kept running line reply stays =
+    runs_on d line reply old old kept running (λ calm base. stays_step d (on d base old) line reply refl (λ o. kept.book running) (omega arith) (omega arith) (omega arith) (stays base))
 
-  pub write_range : (sector : ℕ) (bytes : List ℕ) → d.geometry.sectors ≤ sector → Steps d (Write sector bytes) Range old old
-  write_range sector bytes far = still_steps (Write sector bytes) Range (λ base. record {
+module _ (d : Numbers) (old : DeviceValue) (base : Tallies) where
+  pub write_range : (sector : ℕ) (bytes : List ℕ) → d.geometry.sectors ≤ sector → Stays d (on d base old) (Write sector bytes) Range
+  write_range sector bytes far = record {
     row = refl;
     refused = is_range d (event_of (Write sector bytes) Range (on d base old) (on d base old)) tt far refl;
     no_fault = λ h. cc;
@@ -127,10 +127,10 @@ module _ (d : Numbers) (old : DeviceValue) (kept : IsKept d old) (running : old.
     arms = tt;
     calls = (refl, refl);
     placed = λ s b t. absurd (omega (arith, far, t.in_range, ap sector_in t.write));
-  })
+  }
 
-  pub write_long : (sector : ℕ) (bytes : List ℕ) → sector < d.geometry.sectors → d.geometry.sector_bytes < length bytes → Steps d (Write sector bytes) Long old old
-  write_long sector bytes near many = still_steps (Write sector bytes) Long (λ base. record {
+  pub write_long : (sector : ℕ) (bytes : List ℕ) → sector < d.geometry.sectors → d.geometry.sector_bytes < length bytes → Stays d (on d base old) (Write sector bytes) Long
+  write_long sector bytes near many = record {
     row = refl;
     refused = is_long d (event_of (Write sector bytes) Long (on d base old) (on d base old)) tt (λ far. omega (arith, near, far)) many refl;
     no_fault = λ h. cc;
@@ -143,10 +143,10 @@ module _ (d : Numbers) (old : DeviceValue) (kept : IsKept d old) (running : old.
     arms = tt;
     calls = (refl, refl);
     placed = λ s b t. absurd (omega (arith, many, t.fits, ap length (ap bytes_in t.write)));
-  })
+  }
 
-  pub write_spent : (sector : ℕ) (bytes : List ℕ) → sector < d.geometry.sectors → length bytes ≤ d.geometry.sector_bytes → 2 ^ 62 ≤ old.view.seq → Steps d (Write sector bytes) Spent old old
-  write_spent sector bytes near fits spent = still_steps (Write sector bytes) Spent (λ base. record {
+  pub write_spent : (sector : ℕ) (bytes : List ℕ) → sector < d.geometry.sectors → length bytes ≤ d.geometry.sector_bytes → 2 ^ 62 ≤ old.view.seq → Stays d (on d base old) (Write sector bytes) Spent
+  write_spent sector bytes near fits spent = record {
     row = refl;
     refused = is_spent d (event_of (Write sector bytes) Spent (on d base old) (on d base old)) tt (λ far. omega (arith, near, far)) (λ many. omega (arith, fits, many)) spent refl;
     no_fault = λ h. cc;
@@ -159,10 +159,10 @@ module _ (d : Numbers) (old : DeviceValue) (kept : IsKept d old) (running : old.
     arms = tt;
     calls = (refl, refl);
     placed = λ s b t. absurd (omega (arith, t.numbers, spent));
-  })
+  }
 
-  pub read_range : (sector : ℕ) → d.geometry.sectors ≤ sector → Steps d (Read sector) Range old old
-  read_range sector far = still_steps (Read sector) Range (λ base. record {
+  pub read_range : (sector : ℕ) → d.geometry.sectors ≤ sector → Stays d (on d base old) (Read sector) Range
+  read_range sector far = record {
     row = refl;
     refused = is_range d (event_of (Read sector) Range (on d base old) (on d base old)) tt far refl;
     no_fault = λ h. cc;
@@ -175,10 +175,10 @@ module _ (d : Numbers) (old : DeviceValue) (kept : IsKept d old) (running : old.
     arms = tt;
     calls = (refl, refl);
     placed = λ s b t. absurd (let l = t.write in cc);
-  })
+  }
 
-  pub trim_range : (sector : ℕ) → d.geometry.sectors ≤ sector → Steps d (Trim sector) Range old old
-  trim_range sector far = still_steps (Trim sector) Range (λ base. record {
+  pub trim_range : (sector : ℕ) → d.geometry.sectors ≤ sector → Stays d (on d base old) (Trim sector) Range
+  trim_range sector far = record {
     row = refl;
     refused = is_range d (event_of (Trim sector) Range (on d base old) (on d base old)) tt far refl;
     no_fault = λ h. cc;
@@ -191,10 +191,10 @@ module _ (d : Numbers) (old : DeviceValue) (kept : IsKept d old) (running : old.
     arms = tt;
     calls = (refl, refl);
     placed = λ s b t. absurd (let l = t.write in cc);
-  })
+  }
 
-  pub trim_spent : (sector : ℕ) → sector < d.geometry.sectors → 2 ^ 62 ≤ old.view.seq → Steps d (Trim sector) Spent old old
-  trim_spent sector near spent = still_steps (Trim sector) Spent (λ base. record {
+  pub trim_spent : (sector : ℕ) → sector < d.geometry.sectors → 2 ^ 62 ≤ old.view.seq → Stays d (on d base old) (Trim sector) Spent
+  trim_spent sector near spent = record {
     row = refl;
     refused = is_spent d (event_of (Trim sector) Spent (on d base old) (on d base old)) tt (λ far. omega (arith, near, far)) (λ many. many) spent refl;
     no_fault = λ h. cc;
@@ -207,7 +207,7 @@ module _ (d : Numbers) (old : DeviceValue) (kept : IsKept d old) (running : old.
     arms = tt;
     calls = (refl, refl);
     placed = λ s b t. absurd (let l = t.write in cc);
-  })
+  }
 
 -- ---- while the session is off, and `stat`
 

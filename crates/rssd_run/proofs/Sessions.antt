@@ -22,15 +22,15 @@ array_stands : (stopped : Bool) (rows : List (List ℕ)) (array : ArrayState) �
 array_stands false rows array is = rw is refl
 array_stands true rows array is = is.1
 
-runs_array : (stopped : Bool) → stopped ≡ false → (rows : List (List ℕ)) (array : ArrayState) → ArrayIs stopped rows array → array ≡ On rows
+pub runs_array : (stopped : Bool) → stopped ≡ false → (rows : List (List ℕ)) (array : ArrayState) → ArrayIs stopped rows array → array ≡ On rows
 runs_array false e rows array is = is
 runs_array true e rows array is = cc
 
-stops_array : (stopped : Bool) → stopped ≡ true → (rows : List (List ℕ)) (array : ArrayState) → ArrayIs stopped rows array → IsOff array
+pub stops_array : (stopped : Bool) → stopped ≡ true → (rows : List (List ℕ)) (array : ArrayState) → ArrayIs stopped rows array → IsOff array
 stops_array false e rows array is = cc
 stops_array true e rows array is = is.0
 
-shows_stands : (d : Numbers) (base : Tallies) (holding : Holding) (view : View) → ShowsHolding d base holding view → StandsFor d view
+pub shows_stands : (d : Numbers) (base : Tallies) (holding : Holding) (view : View) → ShowsHolding d base holding view → StandsFor d view
 shows_stands d base (Mounted device) view shows = rw shows.0 (array_stands device.stopped (rows_of d device.view) view.array shows.1)
 shows_stands d base (Closed numbers die) view shows = shows.3
 shows_stands d base Nothing view shows = absurd shows
@@ -43,7 +43,7 @@ small_view view base is small = record {
   moved = omega (arith, ap (λ t. t.moved) is, small.moved);
 }
 
-small_plus : (base : Tallies) (view : DeviceView) → IsSmall (plus base view)
+pub small_plus : (base : Tallies) (view : DeviceView) → IsSmall (plus base view)
 small_plus base view = record { first = omega arith; second = omega arith; declined = omega arith; moved = omega arith }
 
 shows_small : (d : Numbers) (base : Tallies) (holding : Holding) (view : View) → AreSmall base → ShowsHolding d base holding view → IsSmall view.device

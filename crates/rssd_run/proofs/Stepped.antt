@@ -30,11 +30,11 @@ pub change_tells : {changes reads : ℕ} (old new : DieState) → TellsPower old
 change_tells {changes} {reads} old new power failed =
     powered_case (Cut changes reads) (λ x y. IsSomeAnd y (λ f. Unit {0})) (λ a b c. tt) old.failures new.failures power failed.failures
 
-array_runs : (stopped : Bool) → stopped ≡ false → (rows : List (List ℕ)) → ArrayIs stopped rows (On rows)
+pub array_runs : (stopped : Bool) → stopped ≡ false → (rows : List (List ℕ)) → ArrayIs stopped rows (On rows)
 array_runs true e rows = cc
 array_runs false e rows = refl
 
-array_stops : (stopped : Bool) → stopped ≡ true → (rows a b : List (List ℕ)) → (rows ≡ a) ⊎ (rows ≡ b) → ArrayIs stopped rows (Off a b)
+pub array_stops : (stopped : Bool) → stopped ≡ true → (rows a b : List (List ℕ)) → (rows ≡ a) ⊎ (rows ≡ b) → ArrayIs stopped rows (Off a b)
 array_stops true e rows a b one = (tt, one)
 array_stops false e rows a b one = cc
 

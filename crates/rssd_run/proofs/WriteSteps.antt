@@ -57,15 +57,15 @@ unit_in other None = other
 unit_in other (Some unit) = unit
 
 -- the one offered unit cannot both carry the sector and not carry it
-offered_both : (d : Numbers) (view : DeviceView) (row : List ℕ) → OfferCarries d view row → OfferDeclines d view row → ⊥
+pub offered_both : (d : Numbers) (view : DeviceView) (row : List ℕ) → OfferCarries d view row → OfferDeclines d view row → ⊥
 offered_both d view row carries declines =
     let same : carries.0 ≡ declines.0 = ap (unit_in carries.0) (sym carries.1 ∙ declines.1) in
     declines.2 (rw (sym same) carries.2)
 
-over_plus : (d : Numbers) (base : Tallies) (old new : DeviceView) (sector : ℕ) (unit : ReuseUnit) → OverUnit d old new sector unit → OverUnit d (plus base old) (plus base new) sector unit
+pub over_plus : (d : Numbers) (base : Tallies) (old new : DeviceView) (sector : ℕ) (unit : ReuseUnit) → OverUnit d old new sector unit → OverUnit d (plus base old) (plus base new) sector unit
 over_plus d base old new sector unit over = record { live = over.live; above = over.above }
 
-neither : {A B C : Type 0} → (A → ⊥) → (B → ⊥) → A ⊎ B → C
+pub neither : {A B C : Type 0} → (A → ⊥) → (B → ⊥) → A ⊎ B → C
 neither f g (inl a) = absurd (f a)
 neither f g (inr b) = absurd (g b)
 

@@ -15,6 +15,7 @@ pub mod Run
 pub mod Held
 pub mod Steps
 pub mod Shows
+pub mod Played
 pub mod ReadScript
 pub mod Schemes
 pub mod Replays

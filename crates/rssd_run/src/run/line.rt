@@ -1,5 +1,5 @@
 //! Lines on a device that runs. Each is one call of it, and a step from every view that it stood for to one that it stands for.
-ghost use Rattle.std.specs.Prelude.{◌≡◌, ◌≤◌, ◌<◌, ◌^◌, false, length, IfOk, IfErr};
+ghost use Rattle.std.specs.Prelude.{◌≡◌, ◌≤◌, ◌<◌, ◌^◌, ◌↔◌, false, length, None, IfSome, IfNone, IfOk, IfErr};
 ghost use Rattle.cell_die.specs.DieState.{DieState};
 ghost use Rattle.page_codec.specs.Geometry.{shape_of};
 ghost use Rattle.rssd_core.specs.Failures.{Tells};
@@ -7,12 +7,13 @@ ghost use Rattle.rssd_core.specs.Mount.{numbers_of, Fits};
 ghost use Rattle.rssd_core.specs.SectorArray.{filled_up};
 ghost use Rattle.rssd_run.specs.Armed.{form_of_word};
 ghost use Rattle.rssd_run.specs.Held.{reply_of};
+ghost use Rattle.rssd_run.specs.Played.{IsPlayed, Answered, AnsweredWrite, AnsweredRead, AnsweredTrim, AnsweredIdle, Plays, PlaysQuiet};
 ghost use Rattle.rssd_run.specs.Shows.{CanStep, IsDeviceLine};
 ghost use Rattle.rssd_run.specs.Steps.{IsKept, Steps, MountDone, MountRefused, refusal_reply as replied};
 
 use crate::answer::bytes_reply;
-use cell_die::{PowerDie, Torn};
-use rssd_core::device::{FtlError, MountError, Placed, Plan, PowerDevice, Refused};
+use cell_die::{Die, PowerDie, Torn};
+use rssd_core::device::{Device, FtlError, MountError, Placed, Plan, PowerDevice, Refused};
 use rssd_script::{Line, Reply, TornWord};
 use std::alloc::Global;
 use striped::Scheme;
@@ -53,7 +54,7 @@ fn filled_row(bytes: &[u8]) -> [u8; 512]
 }
 
 /// Writes a sector that the device has, with bytes that fit it.
-fn write_row<D: PowerDie + Drop, C: Scheme + Drop, F: PowerDevice<D, C>>(
+fn write_row<D: Die + Drop, C: Scheme + Drop, F: Device<D, C>>(
     ftl: &mut F,
     sector: u32,
     bytes: &[u8],
@@ -62,8 +63,7 @@ fn write_row<D: PowerDie + Drop, C: Scheme + Drop, F: PowerDevice<D, C>>(
     requires fits { length bytes.now ≤ (F.device ftl.old).numbers.geometry.sector_bytes }
     requires few_bytes { (F.device ftl.old).numbers.geometry.sector_bytes ≤ 512 }
     requires running { (F.device ftl.old).stopped ≡ false }
-    requires kept { IsKept (F.device ftl.old).numbers (F.device ftl.old) }
-    ensures { Steps (F.device ftl.old).numbers (Line.Write sector bytes.now) result (F.device ftl.old) (F.device ftl.new) }
+    ensures { AnsweredWrite (F.device ftl.old).numbers sector bytes.now result (F.device ftl.old) (F.device ftl.new) }
 {
     let row = filled_row(bytes);
     let size = ftl.sector_bytes() as usize;
@@ -76,15 +76,14 @@ fn write_row<D: PowerDie + Drop, C: Scheme + Drop, F: PowerDevice<D, C>>(
 }
 
 /// Answers `write`.
-fn write_line<D: PowerDie + Drop, C: Scheme + Drop, F: PowerDevice<D, C>>(
+fn write_line<D: Die + Drop, C: Scheme + Drop, F: Device<D, C>>(
     ftl: &mut F,
     sector: u32,
     bytes: &[u8],
 ) -> Reply
     requires few_bytes { (F.device ftl.old).numbers.geometry.sector_bytes ≤ 512 }
     requires running { (F.device ftl.old).stopped ≡ false }
-    requires kept { IsKept (F.device ftl.old).numbers (F.device ftl.old) }
-    ensures { Steps (F.device ftl.old).numbers (Line.Write sector bytes.now) result (F.device ftl.old) (F.device ftl.new) }
+    ensures { AnsweredWrite (F.device ftl.old).numbers sector bytes.now result (F.device ftl.old) (F.device ftl.new) }
 {
     if sector >= ftl.sectors() {
         return Reply::Range;
@@ -96,14 +95,10 @@ fn write_line<D: PowerDie + Drop, C: Scheme + Drop, F: PowerDevice<D, C>>(
 }
 
 /// Answers `read`.
-fn read_line<D: PowerDie + Drop, C: Scheme + Drop, F: PowerDevice<D, C>>(
-    ftl: &mut F,
-    sector: u32,
-) -> Reply
+fn read_line<D: Die + Drop, C: Scheme + Drop, F: Device<D, C>>(ftl: &mut F, sector: u32) -> Reply
     requires few_bytes { (F.device ftl.old).numbers.geometry.sector_bytes ≤ 512 }
     requires running { (F.device ftl.old).stopped ≡ false }
-    requires kept { IsKept (F.device ftl.old).numbers (F.device ftl.old) }
-    ensures { Steps (F.device ftl.old).numbers (Line.Read sector) result (F.device ftl.old) (F.device ftl.new) }
+    ensures { AnsweredRead (F.device ftl.old).numbers sector result (F.device ftl.old) (F.device ftl.new) }
 {
     let mut room = [0u8; ROW_BYTES];
     let row = &mut room[..ftl.sector_bytes() as usize];
@@ -116,13 +111,9 @@ fn read_line<D: PowerDie + Drop, C: Scheme + Drop, F: PowerDevice<D, C>>(
 }
 
 /// Answers `trim`.
-fn trim_line<D: PowerDie + Drop, C: Scheme + Drop, F: PowerDevice<D, C>>(
-    ftl: &mut F,
-    sector: u32,
-) -> Reply
+fn trim_line<D: Die + Drop, C: Scheme + Drop, F: Device<D, C>>(ftl: &mut F, sector: u32) -> Reply
     requires running { (F.device ftl.old).stopped ≡ false }
-    requires kept { IsKept (F.device ftl.old).numbers (F.device ftl.old) }
-    ensures { Steps (F.device ftl.old).numbers (Line.Trim sector) result (F.device ftl.old) (F.device ftl.new) }
+    ensures { AnsweredTrim (F.device ftl.old).numbers sector result (F.device ftl.old) (F.device ftl.new) }
 {
     match ftl.trim(sector) {
         Ok(()) => Reply::Done,
@@ -134,18 +125,54 @@ fn trim_line<D: PowerDie + Drop, C: Scheme + Drop, F: PowerDevice<D, C>>(
 }
 
 /// Answers `idle`.
-fn idle_line<D: PowerDie + Drop, C: Scheme + Drop, F: PowerDevice<D, C>>(
-    ftl: &mut F,
-    n: u32,
-) -> Reply
+fn idle_line<D: Die + Drop, C: Scheme + Drop, F: Device<D, C>>(ftl: &mut F, n: u32) -> Reply
     requires running { (F.device ftl.old).stopped ≡ false }
-    requires kept { IsKept (F.device ftl.old).numbers (F.device ftl.old) }
-    ensures { Steps (F.device ftl.old).numbers (Line.Idle n) result (F.device ftl.old) (F.device ftl.new) }
+    ensures { AnsweredIdle (F.device ftl.old).numbers n result (F.device ftl.old) (F.device ftl.new) }
 {
     match ftl.idle(n) {
         Ok(moves) => Reply::Moves(moves),
         Err(FtlError::DieFault) => Reply::Fault,
         Err(FtlError::BadSector | FtlError::Stopped | FtlError::Spent) => unreachable!(),
+    }
+}
+
+/// Answers a line that is played on a device, which runs.
+fn play_line<D: Die + Drop, C: Scheme + Drop, F: Device<D, C>>(ftl: &mut F, line: &Line) -> Reply
+    requires line { IsPlayed line.now }
+    requires few_bytes { (F.device ftl.old).numbers.geometry.sector_bytes ≤ 512 }
+    requires running { (F.device ftl.old).stopped ≡ false }
+    ensures { Answered (F.device ftl.old).numbers line.now result (F.device ftl.old) (F.device ftl.new) }
+{
+    match line {
+        Line::Write { sector, bytes } => write_line(ftl, *sector, bytes.as_slice()),
+        Line::Read { sector } => read_line(ftl, *sector),
+        Line::Trim { sector } => trim_line(ftl, *sector),
+        Line::Idle { n } => idle_line(ftl, *n),
+        Line::Cut { .. } | Line::FailRead { .. } | Line::Mount | Line::Stat => unreachable!(),
+    }
+}
+
+/// Plays a line on a device over any die: `off` where the device is stopped. None is answered for a line that only a session
+/// takes, and then nothing changes.
+pub fn play<D: Die + Drop, C: Scheme + Drop, F: Device<D, C>>(
+    ftl: &mut F,
+    line: &Line,
+) -> Option<Reply>
+    requires { (F.device ftl.old).numbers.geometry.sector_bytes ≤ 512 }
+    ensures none { result ≡ None ↔ (¬ IsPlayed line.now) }
+    ensures nothing { IfNone result (F.device ftl.new ≡ F.device ftl.old) }
+    ensures plays { IfSome result (λ reply. Plays (F.device ftl.old).numbers line.now reply (F.device ftl.old) (F.device ftl.new)) }
+    ensures quiet { IfSome result (λ reply. PlaysQuiet reply (F.device ftl.old) (F.device ftl.new)) }
+{
+    match line {
+        Line::Cut { .. } | Line::FailRead { .. } | Line::Mount | Line::Stat => None,
+        _ => {
+            if ftl.stopped() {
+                Some(Reply::Off)
+            } else {
+                Some(play_line(ftl, line))
+            }
+        }
     }
 }
 
@@ -191,13 +218,10 @@ pub fn answer_line<D: PowerDie + Drop, C: Scheme + Drop, F: PowerDevice<D, C>>(
     ensures { Steps (F.device ftl.old).numbers line.now result (F.device ftl.old) (F.device ftl.new) }
 {
     match line {
-        Line::Write { sector, bytes } => write_line(ftl, *sector, bytes.as_slice()),
-        Line::Read { sector } => read_line(ftl, *sector),
-        Line::Trim { sector } => trim_line(ftl, *sector),
-        Line::Idle { n } => idle_line(ftl, *n),
         Line::Cut { n, torn } => cut_line(ftl, *n, *torn),
         Line::FailRead { n } => fail_read_line(ftl, *n),
         Line::Mount | Line::Stat => unreachable!(),
+        _ => play_line(ftl, line),
     }
 }
 
