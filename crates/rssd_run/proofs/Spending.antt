@@ -1,13 +1,12 @@
 -- A replay of a script never spends the record numbers: each line draws fewer than 2^8, and a script has no more lines than bytes.
-use Rattle.std.proofs.Common.{◌≡◌, ◌⊎◌, inl, inr, ℕ, ◌+◌, ◌*◌, ◌^◌, ◌<◌, ◌≤◌, min, Bool, true, false, List, [], ◌∷◌, length, map, Some, if◌then◌else◌, ◌==◌, Option, refl, sym, ap, ◌∙◌, arith, subst}
+use Rattle.std.proofs.Common.{◌≡◌, ◌⊎◌, inl, inr, ℕ, ◌+◌, ◌*◌, ◌^◌, ◌<◌, ◌≤◌, Bool, true, false, List, [], ◌∷◌, length, Some, if◌then◌else◌, ◌==◌, Option, refl, sym, ap, arith, subst}
 use Rattle.std.specs.List.{AllByRecursion, AllZip}
 use Rattle.std.proofs.lemmas.List.Elements.{All-from_recursion}
 use Rattle.std.specs.Prelude.{All}
-use Rattle.zero_count.specs.declared.Header.{Header}
 use Rattle.page_codec.specs.Geometry.{Geometry}
 use Rattle.page_codec.specs.Records.{header_in}
 use Rattle.page_codec.specs.Sound.{IsSound, SeqsBelow}
-use Rattle.mount_scan.specs.Mounted.{IsMountedSeq, seq_after}
+use Rattle.mount_scan.specs.Mounted.{IsMountedSeq}
 use Rattle.die_image.specs.declared.head.ImageHead.{ImageHead}
 use Rattle.rssd_core.specs.DeviceValue.{Numbers, DeviceView}
 use Rattle.rssd_core.specs.Moves.{MovesSeq}
@@ -15,7 +14,7 @@ use Rattle.rssd_core.specs.Mount.{IsMountedView}
 use Rattle.rssd_script.specs.declared.lines.Line.{Line}
 use Rattle.rssd_script.specs.declared.lines.Line.TheVariants.{Write, Read, Trim, Idle, Cut, FailRead, Mount, Stat}
 use Rattle.rssd_script.specs.declared.replies.Reply.{Reply}
-use Rattle.rssd_script.specs.declared.replies.Reply.TheVariants.{Done, Spent}
+use Rattle.rssd_script.specs.declared.replies.Reply.TheVariants.{Done}
 use Rattle.rssd_script.specs.Script.{Spells, text_lines, onto_first}
 use Rattle.rssd_script.specs.Scripts.{Reads}
 use Rattle.rssd_run.specs.View.{View, Event, IsCommand}
