@@ -347,7 +347,7 @@ played_read d base old new sector bytes a runs =
       stands_before = refl;
       stands_after = refl;
       off = λ h. cc;
-      keeps = keeps_cells d (plus base old.view) (plus base new.view) same;
+      keeps = keeps_cells d (plus base old.view) (plus base new.view) a.holds.kept.shape same;
       placed = λ s b t. absurd (let l = t.write in cc);
       cause = λ h. cc;
       refused = not_refused d e tt (λ h. omega (arith, a.in_range)) (λ h. h) (λ h. h) (λ h. cc) (λ h. cc) (λ h. cc) (λ h. cc);
@@ -374,7 +374,7 @@ played_read_fault d base old new sector a runs =
       stands_before = refl;
       stands_after = refl;
       off = λ h c. absurd c;
-      keeps = keeps_cells d (plus base old.view) (plus base new.view) same;
+      keeps = keeps_cells d (plus base old.view) (plus base new.view) a.holds.kept.shape same;
       placed = λ s b t. absurd (let l = t.write in cc);
       cause = λ h. read_rose old.view.die new.view.die a.failed;
       refused = not_refused d e tt (λ h. omega (arith, a.in_range)) (λ h. h) (λ h. h) (λ h. cc) (λ h. cc) (λ h. cc) (λ h. cc);

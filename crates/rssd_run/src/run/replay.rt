@@ -9,7 +9,7 @@ ghost use Rattle.rssd_io.specs.Faults.{Rose};
 ghost use Rattle.rssd_script.specs.declared.lines.Line.{Line as Spelled};
 ghost use Rattle.rssd_script.specs.Scripts.{Reads};
 ghost use Rattle.rssd_run.specs.Calm.{is_arming, IsCalm, NeverSpends};
-ghost use Rattle.rssd_run.specs.Headline.{AllKeepHeadline};
+ghost use Rattle.rssd_run.specs.Headline.{AllKeepHeadline, ChargeNeverFalls};
 ghost use Rattle.rssd_run.specs.Replays.{Replays, ReplaysFront, StartsBlank, numbers_named};
 ghost use Rattle.rssd_run.specs.Schemes.{meaning_named};
 ghost use Rattle.rssd_run.specs.Shows.{CanStep, session_of};
@@ -181,7 +181,13 @@ pub fn replays_keep_the_headline()
         → AllKeepHeadline (numbers_named head) given.run.events }
 {}
 
-/// So does each line of a replay whose sink failed, up to the line whose reply it did not take whole.
+/// From any view of a replay to any later one, no cell's charge falls between erases of its block.
+pub fn charge_never_falls_in_a_replay()
+    ensures { (head : Head) (lines : List Spelled) (written after : Option (List ℕ)) (given : Replays head lines written after)
+        → ChargeNeverFalls given.before given.run.events }
+{}
+
+/// The headline is kept too by each line of a replay whose sink failed, up to the line whose reply it did not take whole.
 pub fn cut_off_replays_keep_the_headline()
     ensures { (head : Head) (lines : List Spelled) (written after : Option (List ℕ)) (given : ReplaysFront head lines written after)
         → AllKeepHeadline (numbers_named head) (given.run.events ++ given.run.last ∷ []) }
