@@ -1,5 +1,5 @@
 -- What a line on a device left, by its reply, is a step of a session with power, and a played step on any die.
-use Rattle.std.proofs.Common.{◌≡◌, ◌⊎◌, inl, inr, ℕ, ◌+◌, ◌<◌, ◌≤◌, ◌^◌, List, Bool, true, false, refl, arith, sym, ap, ◌∙◌, subst}
+use Rattle.std.proofs.Common.{◌≡◌, inl, inr, ℕ, List, true, false, refl, arith, sym, ap, ◌∙◌, subst}
 use Rattle.cell_die.specs.Calls.{IsQuiet, PassedWithin}
 use Rattle.cell_die.proofs.Quiet.{quiet_stays, quiet_stays_within, quiet_change, quiet_read}
 use Rattle.page_codec.specs.Sound.{IsSound}
@@ -15,11 +15,10 @@ use Rattle.rssd_core.specs.DeviceValue.{Numbers, DeviceValue, rows_of}
 use Rattle.rssd_core.specs.Outcomes.{Faulted, ReadFault, ChangeFault, TrueWhileRunning}
 use Rattle.rssd_core.specs.Within.{WithinWrite, WithinTrim, WithinIdle}
 use Rattle.rssd_run.specs.ArrayWithCuts.{ArrayState, On, Off}
-use Rattle.rssd_run.specs.View.{View}
 use Rattle.rssd_run.specs.Held.{Tallies, on, off, reply_of}
 use Rattle.rssd_run.specs.Steps.{IsKept, Steps, ArrayIs}
-use Rattle.rssd_run.specs.Shows.{Mounted, ShowsHolding}
-use Rattle.rssd_run.specs.Played.{IsPlayed, WroteSo, WriteFailed, ReadSo, ReadWithFault, TrimmedSo, TrimFailed, AnsweredWrite, AnsweredRead, AnsweredTrim, AnsweredIdle, Answered, IsPlayedStep, Plays, PlaysQuiet}
+use Rattle.rssd_run.specs.Shows.{Mounted}
+use Rattle.rssd_run.specs.Played.{IsPlayed, WroteSo, AnsweredWrite, AnsweredRead, AnsweredTrim, AnsweredIdle, Answered, IsPlayedStep, Plays, PlaysQuiet}
 use Rattle.rssd_run.proofs.WriteSteps.{event_of}
 use Rattle.rssd_run.proofs.Stepped.{array_runs, array_stops, wrote_steps, write_fault_steps, trimmed_steps, trim_fault_steps, idled_steps, idle_fault_steps, read_steps, read_fault_steps}
 use Rattle.rssd_run.proofs.Refused.{Stays, stays_step, still_steps, off_step, write_range, write_long, write_spent, read_range, trim_range, trim_spent}

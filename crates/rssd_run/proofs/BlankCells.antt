@@ -54,7 +54,7 @@ zero_page g cells b page = elim (cases_lt page (page_count g)) [
   | inr past ↦ (0, get_or_past cells page [] (subst (λ (n : ℕ). n ≤ page) (sym b.pages) past))
 ]
 
-no_header_at : (g : Geometry) (cells : List (List ℕ)) → IsBlank g cells → (place : Place) (h : Header) → header_in g cells place ≡ Some h → ⊥
+pub no_header_at : (g : Geometry) (cells : List (List ℕ)) → IsBlank g cells → (place : Place) (h : Header) → header_in g cells place ≡ Some h → ⊥
 no_header_at g cells b place h e =
     let page = zero_page g cells b place.page in
     let word = zero_word g.main_bytes page.0 place.slot in

@@ -7,6 +7,7 @@ use Rattle.cell_die.specs.Calls.{WhilePowered, ReadFailureCame}
 use Rattle.mem_die.specs.MemState.{IsNew}
 use Rattle.die_image.specs.declared.head.ImageHead.{ImageHead}
 use Rattle.die_image.specs.Image.{is_within_limits, shape_of}
+use Rattle.page_codec.specs.Records.{header_in}
 use Rattle.page_codec.specs.Sound.{IsSound}
 use Rattle.page_codec.specs.Sectors.{stored}
 use Rattle.rssd_core.specs.declared.device.MountError.{MountError}
@@ -19,7 +20,7 @@ use Rattle.rssd_run.specs.Steps.{ArrayIs}
 use Rattle.rssd_run.specs.Schemes.{meaning_named, HasRow}
 use Rattle.rssd_run.specs.Shows.{Holding, Mounted, SessionValue, ShowsHolding, Starts, HasNumbers}
 use Rattle.rssd_run.specs.Replays.{plan_of, numbers_named, zero_sectors, StartsBlank}
-use Rattle.rssd_run.proofs.BlankCells.{IsBlank, blank_counts, blank_sound, blank_stored}
+use Rattle.rssd_run.proofs.BlankCells.{IsBlank, no_header_at, blank_counts, blank_sound, blank_stored}
 use Rattle.rssd_run.proofs.HeadLimits.{head_limits, head_fits, named_row}
 
 -- a new die of a head that is within the limits
@@ -86,6 +87,7 @@ starts_blank head die session fresh starts =
         mounts = starts.mounts;
         same = none_added device.view starts.mounts.counts;
         zeros = ap On rows;
+        no_header = λ place h at. no_header_at d.geometry die.cells blank place h (subst (λ (cells : List (List ℕ)). header_in d.geometry cells place ≡ Some h) same at);
         sound = subst (IsSound d.geometry) (sym same) (blank_sound d.geometry die.cells (omega (arith, (head_limits head fresh.within).some_blocks)) blank);
       };
       shows = subst (λ (h : Holding). ShowsHolding d session.base h (on d none device)) (sym starts.holding)

@@ -1,7 +1,10 @@
 -- Each step of a run keeps the headline.
-use Rattle.std.proofs.Common.{◌≡◌, ◌⊎◌, inl, inr, ℕ, ◌≤◌, List, [], ◌∷◌, refl, arith, subst}
+use Rattle.std.proofs.Common.{◌≡◌, ◌⊎◌, inl, inr, ℕ, zero, suc, ◌≤◌, List, [], ◌∷◌, refl, arith, subst, ◌∙◌}
 use Rattle.std.specs.List.{AllByRecursion}
 use Rattle.std.proofs.lemmas.List.Elements.{All-from_recursion}
+use Rattle.cell_die.specs.DieState.{DieState}
+use Rattle.cell_die.specs.Changes.{NeverFalls}
+use Rattle.cell_die.proofs.Sequences.{never_falls_refl, never_falls_trans}
 use Rattle.rssd_script.specs.declared.lines.Line.{Line}
 use Rattle.rssd_script.specs.declared.lines.Line.TheVariants.{Write}
 use Rattle.rssd_script.specs.declared.replies.Reply.{Reply}
@@ -12,7 +15,7 @@ use Rattle.rssd_run.specs.View.{View, Event, IsOn}
 use Rattle.rssd_run.specs.Placing.{IsTried}
 use Rattle.rssd_run.specs.Step.{IsStep, OutOfRange, TooLong, NumbersSpent}
 use Rattle.rssd_run.specs.Run.{IsRun}
-use Rattle.rssd_run.specs.Headline.{IsWritten, FaultsRose, KeepsHeadline, AllKeepHeadline}
+use Rattle.rssd_run.specs.Headline.{IsWritten, FaultsRose, KeepsHeadline, AllKeepHeadline, view_at, ChargeNeverFalls}
 
 -- the replies to a write while the array is on
 record RepliesWrite (reply : Reply) (P : Type 0) : Type 0 where
@@ -65,3 +68,37 @@ each_keeps d before (e ∷ events) after run = (step_keeps d e run.1, each_keeps
 
 pub runs_keep_headline : (d : Numbers) (before : View) (events : List Event) (after : View) → IsRun d before events after → AllKeepHeadline d events
 runs_keep_headline d before events after run = All-from_recursion (KeepsHeadline d) events (each_keeps d before events after run)
+
+-- ---- charge, from any view to any later one
+
+record Charged (old new : DieState) : Type 0 where
+  shape : new.shape ≡ old.shape
+  never_falls : NeverFalls old new
+
+uncharged : (die : DieState) → Charged die die
+uncharged die = record { shape = refl; never_falls = never_falls_refl die }
+
+charged_more : (old mid new : DieState) → Charged old mid → Charged mid new → Charged old new
+charged_more old mid new first second = record { shape = second.shape ∙ first.shape; never_falls = never_falls_trans old mid new first.shape first.never_falls second.never_falls }
+
+step_charged : (d : Numbers) (e : Event) → IsStep d e → Charged e.before.device.die e.after.device.die
+step_charged d e step = record { shape = step.keeps.shape; never_falls = step.keeps.never_falls }
+
+charged_from : (d : Numbers) (before : View) (events : List Event) (after : View) → IsRun d before events after → (lines : ℕ) → Charged before.device.die (view_at before events lines).device.die
+unfolding IsRun
+charged_from d before events after run zero = uncharged before.device.die
+charged_from d before [] after run (suc lines) = uncharged before.device.die
+charged_from d before (e ∷ events) after run (suc lines) =
+    subst (λ (view : View). Charged view.device.die (view_at e.after events lines).device.die) run.0
+    (charged_more e.before.device.die e.after.device.die (view_at e.after events lines).device.die (step_charged d e run.1) (charged_from d e.after events after run.2 lines))
+
+charged_between : (d : Numbers) (before : View) (events : List Event) (after : View) → IsRun d before events after → (i j : ℕ) → i ≤ j → Charged (view_at before events i).device.die (view_at before events j).device.die
+unfolding IsRun
+charged_between d before events after run zero j later = charged_from d before events after run j
+charged_between d before [] after run (suc i) zero later = absurd (omega (arith, later))
+charged_between d before [] after run (suc i) (suc j) later = uncharged before.device.die
+charged_between d before (e ∷ events) after run (suc i) zero later = absurd (omega (arith, later))
+charged_between d before (e ∷ events) after run (suc i) (suc j) later = charged_between d e.after events after run.2 i j (omega (arith, later))
+
+pub charge_never_falls : (d : Numbers) (before : View) (events : List Event) (after : View) → IsRun d before events after → ChargeNeverFalls before events
+charge_never_falls d before events after run i j later = (charged_between d before events after run i j later).never_falls

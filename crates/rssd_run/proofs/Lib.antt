@@ -23,5 +23,6 @@ pub mod HeadLimits
 pub mod BlankStart
 pub mod Calm
 pub mod Headline
+pub mod Spending
 pub mod Completeness
 pub mod Rows

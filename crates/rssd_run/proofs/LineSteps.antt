@@ -34,7 +34,7 @@ cut_step d base old n torn some running book =
       stands_before = refl;
       stands_after = refl;
       off = λ h. cc;
-      keeps = keeps_cells d (plus base old.view) (plus base new.view) same;
+      keeps = keeps_cells d (plus base old.view) (plus base new.view) refl same;
       placed = λ s b t. absurd (let l = t.write in cc);
       fault = no_fault e (λ h. cc) none;
       answers = record {
@@ -62,7 +62,7 @@ fail_read_step d base old n some running book =
       stands_before = refl;
       stands_after = refl;
       off = λ h. cc;
-      keeps = keeps_cells d (plus base old.view) (plus base new.view) same;
+      keeps = keeps_cells d (plus base old.view) (plus base new.view) refl same;
       placed = λ s b t. absurd (let l = t.write in cc);
       fault = no_fault e (λ h. cc) none;
       answers = record {
@@ -79,10 +79,10 @@ fail_read_step d base old n some running book =
     }
 
 pub read_step : (d : Numbers) (base : Tallies) (old : DeviceValue) (die : DieState) (sector : ℕ) (bytes : List ℕ) → sector < d.geometry.sectors → old.stopped ≡ false
-    → TellsPower old.view.die → TrueWhileRunning d (with_die (λ before. die) old) → SameCells old.view.die die → Passed 0 (sector_reads d old.view sector) old.view.die die
+    → TellsPower old.view.die → TrueWhileRunning d (with_die (λ before. die) old) → die.shape ≡ old.view.die.shape → SameCells old.view.die die → Passed 0 (sector_reads d old.view sector) old.view.die die
     → bytes ≡ without_zeros (slice_index_or (rows_of d old.view) sector [])
     → IsStep d (event_of (Read sector) (Bytes bytes) (on d base old) (on d base (with_die (λ before. die) old)))
-read_step d base old die sector bytes in_range running power book same passed is_row =
+read_step d base old die sector bytes in_range running power book shape same passed is_row =
     let new : DeviceValue = with_die (λ before. die) old in
     let e : Event = event_of (Read sector) (Bytes bytes) (on d base old) (on d base new) in
     let went : Went 0 (sector_reads d old.view sector) ⊥ old.view.die die = passed_went passed in
@@ -94,7 +94,7 @@ read_step d base old die sector bytes in_range running power book same passed is
       stands_before = refl;
       stands_after = refl;
       off = λ h. cc;
-      keeps = keeps_cells d (plus base old.view) (plus base new.view) same;
+      keeps = keeps_cells d (plus base old.view) (plus base new.view) shape same;
       placed = λ s b t. absurd (let l = t.write in cc);
       fault = no_fault e (λ h. cc) none;
       answers = record {
@@ -111,9 +111,9 @@ read_step d base old die sector bytes in_range running power book same passed is
     }
 
 pub read_fault_step : (d : Numbers) (base : Tallies) (old : DeviceValue) (die : DieState) (sector : ℕ) → sector < d.geometry.sectors → old.stopped ≡ false
-    → TellsPower old.view.die → TrueWhileRunning d (with_die (λ before. die) old) → SameCells old.view.die die → ReadFailed 0 (sector_reads d old.view sector) old.view.die die
+    → TellsPower old.view.die → TrueWhileRunning d (with_die (λ before. die) old) → die.shape ≡ old.view.die.shape → SameCells old.view.die die → ReadFailed 0 (sector_reads d old.view sector) old.view.die die
     → IsStep d (event_of (Read sector) Fault (on d base old) (on d base (with_die (λ before. die) old)))
-read_fault_step d base old die sector in_range running power book same failed =
+read_fault_step d base old die sector in_range running power book shape same failed =
     let new : DeviceValue = with_die (λ before. die) old in
     let e : Event = event_of (Read sector) Fault (on d base old) (on d base new) in
     let came : AReadCame 0 (sector_reads d old.view sector) old.view.die die = read_came old.view.die die power failed in
@@ -123,7 +123,7 @@ read_fault_step d base old die sector in_range running power book same failed =
       stands_before = refl;
       stands_after = refl;
       off = λ h c. absurd c;
-      keeps = keeps_cells d (plus base old.view) (plus base new.view) same;
+      keeps = keeps_cells d (plus base old.view) (plus base new.view) shape same;
       placed = λ s b t. absurd (let l = t.write in cc);
       fault = record {
         came = (λ h. inr came.came, λ h. refl);

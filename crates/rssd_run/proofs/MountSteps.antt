@@ -83,7 +83,7 @@ mount_step d before new stands small tells m =
       stands_before = stands;
       stands_after = refl;
       off = λ h. cc;
-      keeps = keeps_cells d before.device after.device same;
+      keeps = keeps_cells d before.device after.device m.kept.shape same;
       placed = λ s b t. absurd (let l = t.write in cc);
       fault = no_fault e (λ h. cc) none;
       answers = record {
@@ -113,9 +113,9 @@ read_came_powered {changes} {reads} die new came =
     }
 
 pub mount_fault_step : (d : Numbers) (before : View) (die : DieState) → StandsFor d before → before.device.first < 2 ^ 64 → before.device.second < 2 ^ 64 → before.device.declined < 2 ^ 64 → before.device.moved < 2 ^ 64
-    → Tells before.device.die → ReadFailed 0 (page_count d.geometry) (told with_power before.device.die) die → SameCells before.device.die die
+    → Tells before.device.die → ReadFailed 0 (page_count d.geometry) (told with_power before.device.die) die → die.shape ≡ before.device.die.shape → SameCells before.device.die die
     → IsStep d (event_of Mount Fault before (refused before die))
-mount_fault_step d before die stands small_first small_second small_declined small tells failed same =
+mount_fault_step d before die stands small_first small_second small_declined small tells failed shape same =
     let after : View = refused before die in
     let e : Event = event_of Mount Fault before after in
     let powered : DieState = told with_power before.device.die in
@@ -127,7 +127,7 @@ mount_fault_step d before die stands small_first small_second small_declined sma
       stands_before = stands;
       stands_after = refused_stands before.array (rows_of d after.device) still;
       off = λ h c. absurd c;
-      keeps = keeps_cells d before.device after.device same;
+      keeps = keeps_cells d before.device after.device shape same;
       placed = λ s b t. absurd (let l = t.write in cc);
       fault = record {
         came = (λ h. inr came.came, λ h. refl);
@@ -164,9 +164,9 @@ mount_fault_step d before die stands small_first small_second small_declined sma
     }
 
 pub no_spare_step : (d : Numbers) (before : View) (die : DieState) → StandsFor d before → before.device.first < 2 ^ 64 → before.device.second < 2 ^ 64 → before.device.declined < 2 ^ 64 → before.device.moved < 2 ^ 64
-    → Tells before.device.die → Passed 0 (page_count d.geometry) (told with_power before.device.die) die → SameCells before.device.die die
+    → Tells before.device.die → Passed 0 (page_count d.geometry) (told with_power before.device.die) die → die.shape ≡ before.device.die.shape → SameCells before.device.die die
     → EveryBlockLive d.geometry before.device.die → IsStep d (event_of Mount NoSpare before (refused before die))
-no_spare_step d before die stands small_first small_second small_declined small tells passed same full =
+no_spare_step d before die stands small_first small_second small_declined small tells passed shape same full =
     let after : View = refused before die in
     let e : Event = event_of Mount NoSpare before after in
     let powered : DieState = told with_power before.device.die in
@@ -180,7 +180,7 @@ no_spare_step d before die stands small_first small_second small_declined small 
       stands_before = stands;
       stands_after = refused_stands before.array (rows_of d after.device) still;
       off = λ h. cc;
-      keeps = keeps_cells d before.device after.device same;
+      keeps = keeps_cells d before.device after.device shape same;
       placed = λ s b t. absurd (let l = t.write in cc);
       fault = no_fault e (λ h. cc) none;
       answers = record {
@@ -216,7 +216,7 @@ no_memory_step d before stands small_first small_second small_declined small =
       stands_before = stands;
       stands_after = refused_stands before.array (rows_of d after.device) stands;
       off = λ h. cc;
-      keeps = keeps_cells d before.device after.device same;
+      keeps = keeps_cells d before.device after.device refl same;
       placed = λ s b t. absurd (let l = t.write in cc);
       fault = no_fault e (λ h. cc) none;
       answers = record {
@@ -262,7 +262,7 @@ mount_refused d die new DieFault fits r tells =
     record {
       tells = power_tells new came.power;
       shape = r.kept.shape;
-      step = λ before is_die stands f s e m. mount_fault_step d before new stands f s e m (rw is_die tells) (rw is_die r.failed) (rw is_die same);
+      step = λ before is_die stands f s e m. mount_fault_step d before new stands f s e m (rw is_die tells) (rw is_die r.failed) (rw is_die r.kept.shape) (rw is_die same);
     }
 mount_refused d die new NoSpareError fits r tells =
     let powered : DieState = told with_power die in
@@ -270,7 +270,7 @@ mount_refused d die new NoSpareError fits r tells =
     record {
       tells = power_tells new (went_power powered new (power_given die tells) (passed_went {Bounded = ⊥} r.calls));
       shape = r.kept.shape;
-      step = λ before is_die stands f s e m. no_spare_step d before new stands f s e m (rw is_die tells) (rw is_die r.calls) (rw is_die same) (rw is_die r.full);
+      step = λ before is_die stands f s e m. no_spare_step d before new stands f s e m (rw is_die tells) (rw is_die r.calls) (rw is_die r.kept.shape) (rw is_die same) (rw is_die r.full);
     }
 
 -- a die that a device fits has the shape of the device's numbers

@@ -1,8 +1,7 @@
 -- What a line on a device leaves is a played step, on a die that need not tell its power.
-use Rattle.std.proofs.Common.{◌≡◌, ◌≢◌, ◌⊎◌, inl, inr, ℕ, ◌^◌, ◌+◌, ◌-◌, ◌≤◌, ◌<◌, List, [], Bool, true, false, length, None, Some, refl, arith, sym, ap, ◌∙◌, slice_index_or}
+use Rattle.std.proofs.Common.{◌≡◌, inl, inr, ℕ, List, false, refl, arith, sym, ap, ◌∙◌}
 use Rattle.std.proofs.lemmas.Option.{none-some}
 use Rattle.cell_die.specs.Counts.{count_sum}
-use Rattle.cell_die.specs.DieState.{DieState}
 use Rattle.cell_die.specs.Changes.{SameCells}
 use Rattle.page_codec.specs.Sound.{IsSound}
 use Rattle.rssd_script.specs.declared.lines.Line.{Line}
@@ -14,12 +13,12 @@ use Rattle.rssd_core.specs.SectorArray.{filled_up, written, trimmed}
 use Rattle.rssd_core.specs.BookChanges.{Change}
 use Rattle.rssd_core.specs.DeviceValue.{Numbers, DeviceView, DeviceValue, rows_of}
 use Rattle.rssd_core.specs.Moves.{MovesBook}
-use Rattle.rssd_core.specs.Outcomes.{ReadFault, ChangeFault, TrueWhileRunning}
+use Rattle.rssd_core.specs.Outcomes.{ReadFault, ChangeFault}
 use Rattle.rssd_core.specs.Within.{WithinWrite, WithinTrim, WithinIdle}
 use Rattle.rssd_run.specs.ArrayWithCuts.{On, Off}
 use Rattle.rssd_run.specs.View.{View, Event}
 use Rattle.rssd_run.specs.Held.{Tallies, plus, on, off}
-use Rattle.rssd_run.specs.Moves.{BookMoves, MayChange, RisesBy}
+use Rattle.rssd_run.specs.Moves.{BookMoves}
 use Rattle.rssd_run.specs.Placing.{IsTried, PlacedExactly}
 use Rattle.rssd_run.specs.Step.{IsStep}
 use Rattle.rssd_run.specs.Played.{IsPlayed, WroteSo, WriteFailed, ReadSo, ReadWithFault, TrimmedSo, TrimFailed, PlacedSo, PlayedBook, IsPlayedStep}
@@ -348,7 +347,7 @@ played_read d base old new sector bytes a runs =
       stands_before = refl;
       stands_after = refl;
       off = λ h. cc;
-      keeps = keeps_cells d (plus base old.view) (plus base new.view) same;
+      keeps = keeps_cells d (plus base old.view) (plus base new.view) a.holds.kept.shape same;
       placed = λ s b t. absurd (let l = t.write in cc);
       cause = λ h. cc;
       refused = not_refused d e tt (λ h. omega (arith, a.in_range)) (λ h. h) (λ h. h) (λ h. cc) (λ h. cc) (λ h. cc) (λ h. cc);
@@ -375,7 +374,7 @@ played_read_fault d base old new sector a runs =
       stands_before = refl;
       stands_after = refl;
       off = λ h c. absurd c;
-      keeps = keeps_cells d (plus base old.view) (plus base new.view) same;
+      keeps = keeps_cells d (plus base old.view) (plus base new.view) a.holds.kept.shape same;
       placed = λ s b t. absurd (let l = t.write in cc);
       cause = λ h. read_rose old.view.die new.view.die a.failed;
       refused = not_refused d e tt (λ h. omega (arith, a.in_range)) (λ h. h) (λ h. h) (λ h. cc) (λ h. cc) (λ h. cc) (λ h. cc);

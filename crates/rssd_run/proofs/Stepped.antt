@@ -174,10 +174,10 @@ module _ (d : Numbers) (old new : DeviceValue) (sector : ℕ) (in_range : sector
       → Steps d (Read sector) (Bytes bytes) old new
   read_steps bytes passed is_row =
       went_steps d old new kept running holds (Read sector) (Bytes bytes) (passed_went {Bounded = ⊥} passed) (ap (λ device. device.stopped) is_over ∙ running)
-      (λ base. rw is_over (read_step d base old new.view.die sector bytes in_range running (kept.power running) book_over only.cells passed is_row))
+      (λ base. rw is_over (read_step d base old new.view.die sector bytes in_range running (kept.power running) book_over holds.kept.shape only.cells passed is_row))
 
   pub read_fault_steps : ReadFailed 0 (sector_reads d old.view sector) old.view.die new.view.die → Steps d (Read sector) Fault old new
   read_fault_steps failed =
       let came : AReadCame 0 (sector_reads d old.view sector) old.view.die new.view.die = read_came old.view.die new.view.die (kept.power running) failed in
       runs_on d (Read sector) Fault old new (kept_on d old new kept running holds came.power) (ap (λ device. device.stopped) is_over ∙ running)
-      (λ calm base. rw is_over (read_fault_step d base old new.view.die sector in_range running (kept.power running) book_over only.cells failed))
+      (λ calm base. rw is_over (read_fault_step d base old new.view.die sector in_range running (kept.power running) book_over holds.kept.shape only.cells failed))

@@ -12,8 +12,9 @@ use Rattle.rssd_core.specs.Failures.{cut_in, form_in, read_in, cut_of, form_of, 
 use Rattle.rssd_core.specs.Moves.{MovesBook, MovesSeq}
 use Rattle.rssd_run.specs.Step.{KeepsDie}
 
-pub keeps_cells : (d : Numbers) (old new : DeviceView) → SameCells old.die new.die → KeepsDie d old new
-keeps_cells d old new same = record {
+pub keeps_cells : (d : Numbers) (old new : DeviceView) → new.die.shape ≡ old.die.shape → SameCells old.die new.die → KeepsDie d old new
+keeps_cells d old new shape same = record {
+  shape = shape;
   never_falls = same_cells_never_fall same;
   no_pad = λ h. rw same.cells h;
   sound = λ h. rw same.cells h;

@@ -1,8 +1,8 @@
--- Replies of a replay none of whose lines arms a failure.
+-- Replies that never come in a replay: of a script; and of one none of whose lines arms a failure.
 use Rattle.std.specs.Prelude.{◌≡◌, Bool, true, false, All, List, [], ◌∷◌}
 use Rattle.rssd_script.specs.declared.lines.Line.{Line}
 use Rattle.rssd_script.specs.declared.lines.Line.TheVariants.{Cut, FailRead}
-use Rattle.rssd_script.specs.declared.replies.Reply.TheVariants.{Off as SaysOff, Fault, NoSpare, NoMemory}
+use Rattle.rssd_script.specs.declared.replies.Reply.TheVariants.{Off as SaysOff, Fault, Spent, NoSpare, NoMemory}
 use Rattle.rssd_run.specs.View.{Event}
 
 -- `cut` and `failread`
@@ -24,3 +24,7 @@ OffAfterNoMemory (e ∷ events) = (e.reply ≡ SaysOff → ⊥) × ((e.reply ≡
 pub record IsCalm (events : List Event) : Type 0 where
   pub never_fail : All NeverFails events
   pub off : OffAfterNoMemory events
+
+-- the reply is not `spent`
+abbrev pub NeverSpends : Event → Type 0
+NeverSpends e = e.reply ≡ Spent → ⊥

@@ -1,5 +1,5 @@
 -- The headline, of each line of a run.
-use Rattle.std.specs.Prelude.{◌≡◌, ◌⊎◌, ◌↔◌, ℕ, All, List}
+use Rattle.std.specs.Prelude.{◌≡◌, ◌≤◌, ◌⊎◌, ◌↔◌, ℕ, zero, suc, All, List, [], ◌∷◌}
 use Rattle.cell_die.specs.Counts.{Rose}
 use Rattle.cell_die.specs.Changes.{NeverFalls}
 use Rattle.rssd_core.specs.DeviceValue.{Numbers}
@@ -8,7 +8,7 @@ use Rattle.rssd_core.specs.Writes.{OfferDeclines}
 use Rattle.rssd_script.specs.declared.replies.Reply.{Reply}
 use Rattle.rssd_script.specs.declared.replies.Reply.TheVariants.{First, Second, Declined}
 use Rattle.rssd_run.specs.ArrayWithCuts.{Row}
-use Rattle.rssd_run.specs.View.{Event, NoFailure, faults}
+use Rattle.rssd_run.specs.View.{View, Event, NoFailure, faults}
 use Rattle.rssd_run.specs.Placing.{IsTried}
 
 -- the reply to a write that was done
@@ -34,3 +34,13 @@ pub record KeepsHeadline (d : Numbers) (e : Event) : Type 0 where
 -- each line keeps the headline
 abbrev pub AllKeepHeadline : Numbers → List Event → Type 0
 AllKeepHeadline d events = All (KeepsHeadline d) events
+
+-- the view after so many lines of a run; past its end, some view of it
+abbrev pub view_at : View → List Event → ℕ → View
+view_at before events zero = before
+view_at before [] (suc lines) = before
+view_at before (e ∷ events) (suc lines) = view_at e.after events lines
+
+-- no cell's charge falls between erases of its block, from any view of a run to any later one
+abbrev pub ChargeNeverFalls : View → List Event → Type 0
+ChargeNeverFalls before events = (i j : ℕ) → i ≤ j → NeverFalls (view_at before events i).device.die (view_at before events j).device.die

@@ -1,7 +1,10 @@
 -- What a replay of lines runs on, and what it gives: a run of the lines that begins at a blank die that is mounted first.
-use Rattle.std.specs.Prelude.{◌≡◌, ℕ, List, Option, replicate}
+use Rattle.std.specs.Prelude.{◌≡◌, ℕ, List, Option, Some, replicate}
+use Rattle.zero_count.specs.declared.Header.{Header}
 use Rattle.cell_die.specs.DieState.{DieState}
 use Rattle.mem_die.specs.MemState.{IsNew}
+use Rattle.page_codec.specs.declared.place.Place.{Place}
+use Rattle.page_codec.specs.Records.{header_in}
 use Rattle.page_codec.specs.Sound.{IsSound}
 use Rattle.die_image.specs.declared.head.ImageHead.{ImageHead}
 use Rattle.die_image.specs.Image.{shape_of}
@@ -27,8 +30,8 @@ numbers_named head = numbers_of (shape_of head) (meaning_named head.scheme) (pla
 abbrev pub zero_sectors : ImageHead → List (List ℕ)
 zero_sectors head = replicate head.sectors (replicate (meaning_named head.scheme).sector_bytes 0)
 
--- The first view of a replay: a device was mounted on a die with no charged cell, with power and nothing armed. Its cells are
--- sound, and all sectors are zeros.
+-- The first view of a replay: a device was mounted on a die with no charged cell, with power and nothing armed. No header
+-- stands there, its cells are sound, and all sectors are zeros.
 pub record IsBlankStart (head : ImageHead) (view : View) : Type 0 where
   pub die : DieState
   pub blank : IsNew (shape_of head) die
@@ -36,6 +39,7 @@ pub record IsBlankStart (head : ImageHead) (view : View) : Type 0 where
   pub mounts : Mounts (numbers_named head) die device
   pub same : view.device ≡ device.view
   pub zeros : view.array ≡ On (zero_sectors head)
+  pub no_header : (place : Place) (header : Header) → header_in (numbers_named head).geometry view.device.die.cells place ≡ Some header → ⊥
   pub sound : IsSound (numbers_named head).geometry view.device.die.cells
 
 -- a session that stands for such a view

@@ -126,8 +126,9 @@ abbrev pub TrueWhileOn : Numbers → View → Type 0
 TrueWhileOn d view = IsOn view.array
     → IsTrueBook d.geometry d.reuse_max view.device.die.cells view.device.book (live_map d.geometry view.device.die.cells) view.device.seq
 
--- no cell's charge falls between erases of its block, no pad cell is charged, and sound cells stay sound
+-- the die keeps its shape, no cell's charge falls between erases of its block, no pad cell is charged, and sound cells stay sound
 pub record KeepsDie (d : Numbers) (old new : DeviceView) : Type 0 where
+  pub shape : new.die.shape ≡ old.die.shape
   pub never_falls : NeverFalls old.die new.die
   pub no_pad : NoPadCharged (shape_of d.geometry) old.die.cells → NoPadCharged (shape_of d.geometry) new.die.cells
   pub sound : IsSound d.geometry old.die.cells → IsSound d.geometry new.die.cells

@@ -7,8 +7,9 @@ ghost use Rattle.mem_die.specs.Limits.{IsWithinLimits as FitsDie};
 ghost use Rattle.mem_die.specs.MemState.{mem_state};
 ghost use Rattle.rssd_io.specs.Faults.{Rose};
 ghost use Rattle.rssd_script.specs.declared.lines.Line.{Line as Spelled};
-ghost use Rattle.rssd_run.specs.Calm.{is_arming, IsCalm};
-ghost use Rattle.rssd_run.specs.Headline.{AllKeepHeadline};
+ghost use Rattle.rssd_script.specs.Scripts.{Reads};
+ghost use Rattle.rssd_run.specs.Calm.{is_arming, IsCalm, NeverSpends};
+ghost use Rattle.rssd_run.specs.Headline.{AllKeepHeadline, ChargeNeverFalls};
 ghost use Rattle.rssd_run.specs.Replays.{Replays, ReplaysFront, StartsBlank, numbers_named};
 ghost use Rattle.rssd_run.specs.Schemes.{meaning_named};
 ghost use Rattle.rssd_run.specs.Shows.{CanStep, session_of};
@@ -180,7 +181,13 @@ pub fn replays_keep_the_headline()
         → AllKeepHeadline (numbers_named head) given.run.events }
 {}
 
-/// So does each line of a replay whose sink failed, up to the line whose reply it did not take whole.
+/// From any view of a replay to any later one, no cell's charge falls between erases of its block.
+pub fn charge_never_falls_in_a_replay()
+    ensures { (head : Head) (lines : List Spelled) (written after : Option (List ℕ)) (given : Replays head lines written after)
+        → ChargeNeverFalls given.before given.run.events }
+{}
+
+/// The headline is kept too by each line of a replay whose sink failed, up to the line whose reply it did not take whole.
 pub fn cut_off_replays_keep_the_headline()
     ensures { (head : Head) (lines : List Spelled) (written after : Option (List ℕ)) (given : ReplaysFront head lines written after)
         → AllKeepHeadline (numbers_named head) (given.run.events ++ given.run.last ∷ []) }
@@ -190,4 +197,10 @@ pub fn cut_off_replays_keep_the_headline()
 pub fn replays_without_failures_are_calm()
     ensures { (head : Head) (lines : List Spelled) (written after : Option (List ℕ)) (given : Replays head lines written after)
         → All (λ line. is_arming line ≡ false) lines → IsCalm given.run.events }
+{}
+
+/// A replay of a script never answers `spent`: its record numbers stay far below 2^62.
+pub fn replays_never_spend_the_record_numbers()
+    ensures { (head : Head) (text : List ℕ) (lines : List Spelled) (written after : Option (List ℕ)) (given : Replays head lines written after)
+        → Reads text lines → All NeverSpends given.run.events }
 {}
