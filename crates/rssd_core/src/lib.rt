@@ -1,4 +1,5 @@
-//! The device: numbered sectors on the pages of a die. Knows pages, and nothing of scripts.
+//! The device: numbered sectors on a die, through failed reads and power cuts. It knows offers, clean pages and idle moves, and
+//! nothing of scripts.
 #![tactic(auto)]
 
 mod at_hand;
@@ -6,14 +7,14 @@ mod clean_page;
 mod collecting;
 mod contract;
 pub mod device;
-mod ftl;
 mod idle;
 pub mod mounting;
 mod over;
-mod page;
 mod placing;
 mod row;
 mod trim;
 pub mod whole;
 
-pub use ftl::{Ftl, FtlError, MountError, Placed, Plan, Refused, mount};
+pub use device::{Counts, FtlError, MountError, Placed, Plan, Refused};
+pub use mounting::mount;
+pub use whole::Ftl;

@@ -1,7 +1,7 @@
 -- The limits of a head, for each scheme of the table, as those of its die and of its device.
-use Rattle.std.proofs.Common.{◌≡◌, ℕ, ◌+◌, ◌-◌, ◌*◌, ◌≤◌, true, refl, sym, ap, arith, lit≤}
-use Rattle.std.specs.Prelude.{nat_le}
-use Rattle.std.proofs.lemmas.Bool.{leb-true}
+use Rattle.std.proofs.Common.{◌≡◌, ℕ, ◌+◌, ◌-◌, ◌*◌, ◌≤◌, true, refl, sym, ap, arith, lit≤, Bool}
+use Rattle.std.specs.Prelude.{nat_le, ◌&&◌}
+use Rattle.std.proofs.lemmas.Bool.{leb-true, and_parts}
 use Rattle.mem_die.specs.Limits.{IsWithinLimits as FitsDie}
 use Rattle.die_image.specs.declared.head.ImageHead.{ImageHead}
 use Rattle.die_image.specs.declared.scheme.SchemeName.{SchemeName}
@@ -11,7 +11,18 @@ use Rattle.die_image.specs.Image.{is_within_limits, die_bytes, shape_of}
 use Rattle.rssd_core.specs.Mount.{Fits, IsServed}
 use Rattle.rssd_run.specs.Schemes.{meaning_named, plain_meaning, pair_meaning, coset_meaning, flip_meaning, seven_meaning, HasRow}
 use Rattle.rssd_run.specs.Replays.{plan_of}
-use Rattle.rssd_run.proofs.Limits.{all_parts}
+
+all_parts : (a b c d e f g h : Bool) → (a && b && c && d && e && f && g && h) ≡ true
+    → (a ≡ true) × (b ≡ true) × (c ≡ true) × (d ≡ true) × (e ≡ true) × (f ≡ true) × (g ≡ true) × (h ≡ true)
+all_parts a b c d e f g h all =
+    let to_g = and_parts (a && b && c && d && e && f && g) h all in
+    let to_f = and_parts (a && b && c && d && e && f) g to_g.0 in
+    let to_e = and_parts (a && b && c && d && e) f to_f.0 in
+    let to_d = and_parts (a && b && c && d) e to_e.0 in
+    let to_c = and_parts (a && b && c) d to_d.0 in
+    let to_b = and_parts (a && b) c to_c.0 in
+    let to_a = and_parts a b to_b.0 in
+    (to_a.0, to_a.1, to_b.1, to_c.1, to_d.1, to_e.1, to_f.1, to_g.1)
 
 -- each scheme has the numbers of its row
 pub named_row : (name : SchemeName) → HasRow name (meaning_named name)

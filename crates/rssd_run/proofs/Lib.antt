@@ -1,7 +1,4 @@
 pub mod Zeros
-pub mod MoreLines
-pub mod OneLine
-pub mod Limits
 pub mod Came
 pub mod Parts
 pub mod Still

@@ -4,7 +4,7 @@ use Rattle.std.proofs.lemmas.List.{take_more}
 use Rattle.std.proofs.lemmas.Bool.{ne_eqb, cases_eq}
 use Rattle.std.specs.Prelude.{if◌then◌else◌, ◌&&◌, ◌==◌}
 use Rattle.rssd_script.specs.Text.{IsTrimmed}
-use Rattle.rssd_run.specs.Answers.{is_empty, unless_zeros, without_zeros}
+use Rattle.rssd_core.specs.SectorArray.{is_empty, unless_zeros, without_zeros}
 
 -- a zero at the end changes nothing
 zero_at_end : (bytes : List ℕ) → without_zeros (bytes ++ 0 ∷ []) ≡ without_zeros bytes

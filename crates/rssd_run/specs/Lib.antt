@@ -1,9 +1,4 @@
-pub mod Lines
 pub mod Reading
-pub mod Array
-pub mod Answers
-pub mod Running
-pub mod Replay
 pub mod Statuses
 pub mod ArrayWithCuts
 pub mod View

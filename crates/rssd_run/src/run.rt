@@ -1,4 +1,4 @@
-//! Scripts on a device whose power may be cut. This is the form over the device's contract; no device meets it yet.
+//! Scripts on a device whose power may be cut, over the device's contract.
 ghost use Rattle.std.specs.Prelude.{◌≡◌, OnOk, OnErr};
 ghost use Rattle.std.specs.List.{All};
 ghost use Rattle.rssd_core.specs.DeviceValue.{Numbers};
@@ -12,6 +12,7 @@ pub mod schemes;
 pub mod script;
 pub mod session;
 pub mod top;
+pub mod whole;
 
 use rssd_io::{Sink, WriteFault};
 use rssd_script::{Line, Reply, print_reply};

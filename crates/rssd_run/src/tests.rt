@@ -1,64 +1,8 @@
 use super::*;
-use cell_die::Shape;
-use mem_die::MemDie;
-use rssd_core::{Ftl, FtlError, MountError, Placed, Plan, mount};
 use rssd_io::{HonestSource, MemSink, MemSource};
 use std::alloc::Global;
 use std::process::Abort;
 use std::test::Fail;
-
-const SHAPE: Shape = Shape {
-    blocks: 2,
-    pages: 2,
-    main_bytes: 16,
-    spare_bytes: 32,
-};
-
-/// A device with one sector.
-fn mounted(alloc: Global, rt: &impl Abort) -> Ftl<MemDie> {
-    let die = MemDie::blank(alloc, SHAPE).expect(rt, "a blank die");
-    let plan = Plan {
-        sectors: 1,
-        reuse_max: 0,
-    };
-    mount(alloc, die, plan).ok().expect(rt, "a mounted device")
-}
-
-#[test]
-fn a_device_takes_a_write_for_each_page_and_then_is_full(rt: HostRuntime) -> Result<(), Fail> {
-    let mut ftl = mounted(rt.alloc(), &rt);
-    let mut row = [9; 16];
-    assert_eq!(rt; (ftl.sectors(), ftl.stopped()), (1, false));
-    assert_eq!(rt; ftl.read(0, &mut row), Ok(()));
-    assert_eq!(rt; row, [0; 16]);
-    for byte in 1..=4 {
-        assert_eq!(rt; ftl.write(0, &[byte; 16]), Ok(Placed::First));
-    }
-    assert_eq!(rt; ftl.write(0, &[5; 16]), Err(FtlError::Full));
-    assert_eq!(rt; ftl.read(0, &mut row), Ok(()));
-    assert_eq!(rt; row, [4; 16]);
-    assert_eq!(rt;
-        (ftl.write(1, &[5; 16]), ftl.read(1, &mut row)),
-        (Err(FtlError::BadSector), Err(FtlError::BadSector))
-    );
-    Ok(())
-}
-
-#[test]
-fn a_plan_that_does_not_fit_is_refused(rt: HostRuntime) -> Result<(), Fail> {
-    let die = MemDie::blank(rt.alloc(), SHAPE)?;
-    let plan = Plan {
-        sectors: 2,
-        reuse_max: 0,
-    };
-    assert_eq!(rt;
-        mount(rt.alloc(), die, plan)
-            .err()
-            .map(|refused| refused.why),
-        Some(MountError::Shape)
-    );
-    Ok(())
-}
 
 /// What the program answers, with its status.
 fn answers(
@@ -124,7 +68,7 @@ fn a_replay_answers_its_script(rt: HostRuntime) -> Result<(), Fail> {
             [9],
             64,
             0,
-            "first\nfirst\nfirst\nfirst\nfull\n04\n",
+            "first\nfirst\nfirst\nfirst\nfirst\n05\n",
         ),
         (
             "replay plain16 4 2 3 1",
@@ -140,7 +84,7 @@ fn a_replay_answers_its_script(rt: HostRuntime) -> Result<(), Fail> {
             [9],
             64,
             3,
-            "bad line 2\n",
+            "bad line 3\n",
         ),
         (
             "replay plain16 4 2 3 1",

@@ -11,7 +11,7 @@ ghost use Rattle.rssd_run.specs.Played.{IsPlayed, Answered, AnsweredWrite, Answe
 ghost use Rattle.rssd_run.specs.Shows.{CanStep, IsDeviceLine};
 ghost use Rattle.rssd_run.specs.Steps.{IsKept, Steps, MountDone, MountRefused, refusal_reply as replied};
 
-use crate::answer::bytes_reply;
+use crate::row::bytes_reply;
 use cell_die::{Die, PowerDie, Torn};
 use rssd_core::device::{Device, FtlError, MountError, Placed, Plan, PowerDevice, Refused};
 use rssd_script::{Line, Reply, TornWord};

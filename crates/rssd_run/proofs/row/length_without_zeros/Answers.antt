@@ -1,7 +1,7 @@
 -- What is passed from the end are zeros, and the byte before them is none.
 use Rattle.std.proofs.Common.{arith, sym, ◌∙◌}
 use Rattle.rssd_run.proofs.Zeros.{zeros_step, zeros_end, trimmed}
-use Rattle.rssd_run.proofs.answer.length_without_zeros.Goals as goal
+use Rattle.rssd_run.proofs.row.length_without_zeros.Goals as goal
 
 pub loop-count-preserved : goal.loop-count-preserved
 loop-count-preserved c = record {

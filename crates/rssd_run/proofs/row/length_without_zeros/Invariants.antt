@@ -1,6 +1,6 @@
 use Rattle.std.proofs.Common.{◌≡◌, ◌≤◌, length, take}
-use Rattle.rssd_run.specs.Answers.{without_zeros}
-use Rattle.rssd_run.proofs.answer.length_without_zeros.Given as goal
+use Rattle.rssd_core.specs.SectorArray.{without_zeros}
+use Rattle.rssd_run.proofs.row.length_without_zeros.Given as goal
 
 abbrev pub invariant-loop-count : goal.invariant-loop-count
 invariant-loop-count l = record {
