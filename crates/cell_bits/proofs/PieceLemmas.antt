@@ -38,7 +38,7 @@ piece_bit byte first count mask e i h = masked_bit (byte / 2 ^ first) count mask
 abbrev pub change_of : ℕ → ℕ → ℕ → ℕ → ℕ
 change_of byte first bits mask = bit_and (bit_xor (byte / 2 ^ first) bits) mask
 
-pub change_shifted : (byte first bits count mask : ℕ) → mask ≡ 2 ^ count - 1 → first + count ≤ 8 →
+pub change_shifted : (byte first bits count mask : ℕ) → mask ≡ 2 ^ count - 1 → first + count ≤ 64 →
     change_of byte first bits mask * 2 ^ first % 18446744073709551616 ≡ change_of byte first bits mask * 2 ^ first
 change_shifted byte first bits count mask e fits = shl_whole (change_of byte first bits mask) count first 64 (masked_narrow (bit_xor (byte / 2 ^ first) bits) count mask e) (omega arith)
 
@@ -61,7 +61,7 @@ xor_back (suc zero) (suc zero) p q = refl
 xor_back (suc zero) (suc (suc b)) p q = absurd (omega arith)
 xor_back (suc (suc x)) b p q = absurd (omega arith)
 
-pub changed_bit : (byte first bits count mask : ℕ) → mask ≡ 2 ^ count - 1 → first + count ≤ 8 → (i : ℕ) → i < count →
+pub changed_bit : (byte first bits count mask : ℕ) → mask ≡ 2 ^ count - 1 → first + count ≤ 64 → (i : ℕ) → i < count →
     bit_at (bit_xor byte (change_of byte first bits mask * 2 ^ first % 18446744073709551616)) (first + i) ≡ bit_at bits i
 changed_bit byte first bits count mask e fits i h =
     bit_at_xor byte _ (first + i)
@@ -79,12 +79,12 @@ changed_bit byte first bits count mask e fits i h =
 unchanged : (byte change i : ℕ) → bit_at change i ≡ 0 → bit_at (bit_xor byte change) i ≡ bit_at byte i
 unchanged byte change i e = bit_at_xor byte change i ∙ omega (arith, bit_at-lt byte i)
 
-pub unchanged_below : (byte first bits count mask : ℕ) → mask ≡ 2 ^ count - 1 → first + count ≤ 8 → (i : ℕ) → i < first →
+pub unchanged_below : (byte first bits count mask : ℕ) → mask ≡ 2 ^ count - 1 → first + count ≤ 64 → (i : ℕ) → i < first →
     bit_at (bit_xor byte (change_of byte first bits mask * 2 ^ first % 18446744073709551616)) i ≡ bit_at byte i
 unchanged_below byte first bits count mask e fits i h =
     unchanged byte _ i (ap (λ x. bit_at x i) (change_shifted byte first bits count mask e fits) ∙ bit_at_shl_below (change_of byte first bits mask) first i h)
 
-pub unchanged_above : (byte first bits count mask : ℕ) → mask ≡ 2 ^ count - 1 → first + count ≤ 8 → (i : ℕ) → first + count ≤ i →
+pub unchanged_above : (byte first bits count mask : ℕ) → mask ≡ 2 ^ count - 1 → first + count ≤ 64 → (i : ℕ) → first + count ≤ i →
     bit_at (bit_xor byte (change_of byte first bits mask * 2 ^ first % 18446744073709551616)) i ≡ bit_at byte i
 unchanged_above byte first bits count mask e fits i h =
     unchanged byte _ i (ap (λ x. bit_at x i) (change_shifted byte first bits count mask e fits)

@@ -1,5 +1,5 @@
 -- Words of a row: bit i of the number is bit i mod 8 of its byte i / 8.
-use Rattle.std.proofs.Common.{◌≡◌, ℕ, zero, suc, ◌+◌, ◌-◌, ◌*◌, ◌/◌, ◌%◌, ◌^◌, ◌<◌, ◌≤◌, inl, inr, List, [], ◌∷◌, ◌++◌, take, length, slice_index, refl, sym, ap, ap₂, ◌∙◌, arith, subst, length-take}
+use Rattle.std.proofs.Common.{◌≡◌, ℕ, zero, suc, ◌+◌, ◌-◌, ◌*◌, ◌/◌, ◌%◌, ◌^◌, ◌<◌, ◌≤◌, ◌⊎◌, inl, inr, List, [], ◌∷◌, ◌++◌, take, length, slice_index, refl, sym, ap, ap₂, ◌∙◌, arith, subst, length-take}
 use Rattle.std.specs.Int.{bit_at, w64, to_le_bytes, from_le_bytes}
 use Rattle.std.proofs.lemmas.Nat.{le_bytes_8}
 use Rattle.std.proofs.lemmas.Bool.{cases_lt}
@@ -91,3 +91,38 @@ put_bit row bytes start k word eight room e i h =
     inside =
         get_or-append_right (take start row) (bytes ++ post_of start k row) start (start + i / 8) 0 front (omega arith)
         ∙ (ap (slice_index (bytes ++ post_of start k row)) back ∙ get_or_append_left bytes (post_of start k row) 0 (i / 8) (omega (arith, long)))
+
+-- a word whose bits from first on are put in the place of eight bytes, and no other bits
+pub record IsWindow (old new : List ℕ) (start first count bits word with : ℕ) : Type 0 where
+  pub taken : (i : ℕ) → i < 64 → bit_at word i ≡ charge_at old (8 * start + i)
+  pub inside : (i : ℕ) → i < count → bit_at with (first + i) ≡ bit_at bits i
+  pub low : (i : ℕ) → i < first → bit_at with i ≡ bit_at word i
+  pub high : (i : ℕ) → first + count ≤ i → bit_at with i ≡ bit_at word i
+  pub put : (i : ℕ) → i < 64 → charge_at new (8 * start + i) ≡ bit_at with i
+  pub below : (c : ℕ) → c < 8 * start → charge_at new c ≡ charge_at old c
+  pub above : (c : ℕ) → 8 * start + 64 ≤ c → charge_at new c ≡ charge_at old c
+  pub fits : first + count ≤ 64
+
+pub window_bits : (old new : List ℕ) (start first count bits word with at : ℕ) → IsWindow old new start first count bits word with → 8 * start + first ≡ at →
+    (i : ℕ) → i < count → charge_at new (at + i) ≡ bit_at bits i
+window_bits old new start first count bits word with at w e i h =
+    let fits = w.fits in
+    let place : at + i ≡ 8 * start + (first + i) = omega arith in
+    ap (charge_at new) place ∙ w.put (first + i) (omega arith) ∙ w.inside i h
+
+pub window_others : (old new : List ℕ) (start first count bits word with at : ℕ) → IsWindow old new start first count bits word with → 8 * start + first ≡ at →
+    (c : ℕ) → (c < at) ⊎ (at + count ≤ c) → charge_at new c ≡ charge_at old c
+window_others old new start first count bits word with at w e c h =
+    elim (cases_lt c (8 * start)) [
+      | inl l ↦ w.below c l
+      | inr m ↦ elim (cases_lt c (8 * start + 64)) [
+        | inr r ↦ w.above c r
+        | inl s ↦
+            let place : c ≡ 8 * start + (c - 8 * start) = omega arith in
+            ap (charge_at new) place ∙ w.put (c - 8 * start) (omega arith) ∙ same m h ∙ w.taken (c - 8 * start) (omega arith) ∙ ap (charge_at old) (sym place)
+      ]
+    ]
+  where
+    same : 8 * start ≤ c → (c < at) ⊎ (at + count ≤ c) → bit_at with (c - 8 * start) ≡ bit_at word (c - 8 * start)
+    same m (inl l) = w.low (c - 8 * start) (omega arith)
+    same m (inr r) = w.high (c - 8 * start) (omega arith)

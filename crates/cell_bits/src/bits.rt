@@ -1,6 +1,6 @@
 //! Cells of a row, one at a time or up to 64 side by side.
-//! Cells side by side go by whole words where they are 64 that begin with a byte, and else by the
-//! pieces that they fill of each byte. No other byte is touched.
+//! Cells side by side go by a word where some eight bytes of the row hold them all, and else by the
+//! pieces that they fill of each byte. No other cell changes.
 
 ghost use Rattle.std.specs.Prelude.{◌≡◌, ℕ, ◌+◌, ◌*◌, ◌≤◌, ◌<◌, ◌^◌, ◌-◌, ◌⊎◌, length};
 ghost use Rattle.std.specs.Int.{bit_at};
@@ -55,6 +55,41 @@ fn with_piece(byte: u8, first: u32, count: u32, bits: u64) -> u8
     byte ^ (change << first) as u8
 }
 
+/// Eight bytes of a row that hold cell `at`: the first of them, and the cell's place in them. They begin
+/// with the cell's byte, or earlier where the row ends before.
+fn window_of(bytes: usize, at: u32) -> (usize, u32)
+    requires word { 8 ≤ bytes }
+    requires within { at < 8 * bytes }
+    ensures room { result.0 + 8 ≤ bytes }
+    ensures place { 8 * result.0 + result.1 ≡ at }
+    ensures inside { result.1 < 64 }
+{
+    let start = (at as usize / 8).min(bytes - 8);
+    (start, (at as usize - 8 * start) as u32)
+}
+
+/// The `count` bits of a word from bit `first` on.
+fn word_piece(word: u64, first: u32, count: u32) -> u64
+    requires some { 1 ≤ count }
+    requires within { first + count ≤ 64 }
+    ensures bits { (i : ℕ) → i < count → bit_at result i ≡ bit_at word (first + i) }
+    ensures narrow { result < 2 ^ count }
+{
+    word >> first & ones(count)
+}
+
+/// The word with its `count` bits from bit `first` on replaced by the lowest of `bits`.
+fn with_word_piece(word: u64, first: u32, count: u32, bits: u64) -> u64
+    requires some { 1 ≤ count }
+    requires within { first + count ≤ 64 }
+    ensures bits { (i : ℕ) → i < count → bit_at result (first + i) ≡ bit_at bits i }
+    ensures below { (i : ℕ) → i < first → bit_at result i ≡ bit_at word i }
+    ensures above { (i : ℕ) → first + count ≤ i → bit_at result i ≡ bit_at word i }
+{
+    let change = (word >> first ^ bits) & ones(count);
+    word ^ change << first
+}
+
 /// Cells `at` to `at + count - 1` of the row as a number, the lowest cell as its lowest bit.
 pub fn take_bits(row: &[u8], at: u32, count: u32) -> u64
     requires some { 1 ≤ count }
@@ -63,8 +98,11 @@ pub fn take_bits(row: &[u8], at: u32, count: u32) -> u64
     ensures bits { (i : ℕ) → i < count → bit_at result i ≡ charge_at row.now (at + i) }
     ensures narrow { result < 2 ^ count }
 {
-    if at % 8 == 0 && count == 64 {
-        return take_word(row, (at / 8) as usize);
+    if row.len() >= 8 {
+        let (start, first) = window_of(row.len(), at);
+        if first + count <= 64 {
+            return word_piece(take_word(row, start), first, count);
+        }
     }
     let mut bits: u64 = 0;
     let mut done: u32 = 0;
@@ -89,8 +127,12 @@ pub fn put_bits(row: &mut [u8], at: u32, count: u32, bits: u64)
     ensures below { (c : ℕ) → c < at → charge_at row.new c ≡ charge_at row.old c }
     ensures above { (c : ℕ) → at + count ≤ c → charge_at row.new c ≡ charge_at row.old c }
 {
-    if at % 8 == 0 && count == 64 {
-        return put_word(row, (at / 8) as usize, bits);
+    if row.len() >= 8 {
+        let (start, first) = window_of(row.len(), at);
+        if first + count <= 64 {
+            let word = with_word_piece(take_word(row, start), first, count, bits);
+            return put_word(row, start, word);
+        }
     }
     let mut done: u32 = 0;
     while done < count {

@@ -23,6 +23,14 @@ fn a_word_of_cells_has_the_first_byte_lowest(rt: HostRuntime) {
 }
 
 #[test]
+fn twelve_cells_at_the_end_of_nine_bytes_leave_the_others(rt: HostRuntime) {
+    let mut row = [0xff; 9];
+    put_bits(&mut row, 60, 12, 0x5a5);
+    assert_eq!(rt; row, [255, 255, 255, 255, 255, 255, 255, 0x5f, 0x5a]);
+    assert_eq!(rt; take_bits(&row, 60, 12), 0x5a5);
+}
+
+#[test]
 fn a_charged_cell_is_above_the_blank_row(rt: HostRuntime) {
     let blank = [0, 0];
     let mut row = [0, 0];
