@@ -1,4 +1,5 @@
 pub mod ChunkLemmas
+pub mod GroupLemmas
 pub mod LayoutLemmas
 pub mod ReadLemmas
 pub mod RowSteps

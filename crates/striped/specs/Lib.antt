@@ -1,4 +1,5 @@
 pub mod Carried
+pub mod Groups
 pub mod Layouts
 pub mod Meaning
 pub mod Striping

@@ -2,6 +2,7 @@
 #![tactic(auto)]
 
 mod chunks;
+mod groups;
 mod rows;
 mod scheme;
 mod stripes;

@@ -8,7 +8,7 @@ ghost use Rattle.wom_code.specs.Packed.{word_bit};
 use cell_bits::{put_bits, take_bits};
 
 /// A number whose lowest bits are set.
-fn ones(count: usize) -> u64
+pub fn ones(count: usize) -> u64
     requires some { 1 ≤ count }
     requires word { count ≤ 64 }
     ensures { result ≡ 2 ^ count - 1 }

@@ -47,3 +47,22 @@ fn a_unit_takes_only_sectors_above_its_own(rt: HostRuntime) -> Result<(), Fail> 
     assert_eq!(rt; sector, [0xa5]);
     Ok(())
 }
+
+#[test]
+fn small_chunks_of_one_page_go_in_groups(rt: HostRuntime) -> Result<(), Fail> {
+    let mut scheme = Striped::new(rt.alloc(), Plain::<3, 5>::new(), Plain::<3, 5>::new(), 7)?;
+    assert_eq!(rt; (scheme.page_bytes(), scheme.span()), (12, 1));
+    let mut page = [0xff; 12];
+    scheme.first(&[0xa5; 7], &mut page);
+    // The first chunks are 101, 001, 011 and 010, and the last of the 19 is 01 and a zero past the end.
+    assert_eq!(rt; (page[0], page[1], page[2]), (0x85, 0x18, 0x21));
+    assert_eq!(rt; page[11], 0x08);
+    let mut sector = [0; 7];
+    scheme.read_first(&page, &mut sector);
+    assert_eq!(rt; sector, [0xa5; 7]);
+    assert_eq!(rt; scheme.over(&mut page, &[0xff; 7]), Carry::Carried);
+    scheme.read_second(&page, &mut sector);
+    assert_eq!(rt; sector, [0xff; 7]);
+    assert_eq!(rt; scheme.over(&mut page, &[0xa5; 7]), Carry::Declined);
+    Ok(())
+}

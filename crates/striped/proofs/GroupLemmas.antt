@@ -1,0 +1,298 @@
+-- Chunks side by side in one word, and the group of them that stands in a row.
+use Rattle.std.proofs.Common.{◌≡◌, ℕ, ◌+◌, ◌-◌, ◌*◌, ◌/◌, ◌%◌, ◌^◌, ◌<◌, ◌≤◌, Bool, true, false, List, [], ◌∷◌, length, get_or, slice_index, bit_or, ◌==◌, sym, ◌∙◌, ap, ap₂, subst, inl, inr, arith}
+use Rattle.std.specs.Int.{bit_at}
+use Rattle.std.proofs.lemmas.Bool.{cases_lt}
+use Rattle.std.proofs.lemmas.List.{ext_get_or, get_or_past}
+use Rattle.std.proofs.lemmas.List.FromFn.{length-map-range_with_len, get_or-map-range_with_len}
+use Rattle.std.proofs.lemmas.Nat.{row_fits, mul-le, div-mul-add, mod-mul-add, div-add-mod', mod_below, pow_pos}
+use Rattle.std.proofs.lemmas.Nat.Bits.{bit_at_above, bit_at_cat_low, bit_at_cat_high, bit_at-zero, same_from_bits}
+use Rattle.cell_bits.specs.Cells.{charge_at, is_charged, IsAbove}
+use Rattle.cell_bits.proofs.Above.{above_from}
+use Rattle.cell_bits.proofs.PieceLemmas.{taken_is, taken_narrow}
+use Rattle.wom_code.specs.Cells.{cell_at, Carries, NoneCarries}
+use Rattle.wom_code.specs.Packed.{word_bit, cells_of, IsRow}
+use Rattle.wom_code.proofs.PackedLemmas.{same_cells}
+use Rattle.striped.specs.Groups.{chunk_of}
+use Rattle.striped.specs.Striping.{Striping, chunks, page_bytes, chunk_cells, chunk_message, decoded_bit}
+use Rattle.striped.specs.Carried.{get_or-chunk_message}
+use Rattle.striped.proofs.ChunkLemmas.{chunk_within, length-chunk_cells, get_or-chunk_cells, length-chunk_message, none_carries, place}
+
+pub length-chunk_of : (n word j : ℕ) → length (chunk_of n word j) ≡ n
+unfolding chunk_of
+length-chunk_of n word j = length-map-range_with_len (λ c. bit_at word (j * n + c) == 1) 0 n
+
+pub get_or-chunk_of : (n word j c : ℕ) → c < n → get_or (chunk_of n word j) c false ≡ (bit_at word (j * n + c) == 1)
+unfolding chunk_of
+get_or-chunk_of n word j c h = get_or-map-range_with_len (λ k. bit_at word (j * n + k) == 1) 0 n c c false h (omega arith)
+
+pub same_chunk_of : (n a b i j : ℕ) → ((c : ℕ) → c < n → bit_at a (i * n + c) ≡ bit_at b (j * n + c)) → chunk_of n a i ≡ chunk_of n b j
+same_chunk_of n a b i j h =
+    ext_get_or false (chunk_of n a i) (chunk_of n b j) (length-chunk_of n a i ∙ sym (length-chunk_of n b j)) (λ c l.
+    let m : c < n = omega (arith, length-chunk_of n a i) in
+    get_or-chunk_of n a i c m ∙ ap (λ x. x == 1) (h c m) ∙ sym (get_or-chunk_of n b j c m))
+
+-- ---- rows of one word
+
+pub first_word : (words : List ℕ) (i : ℕ) → i < 64 → word_bit words i ≡ bit_at (slice_index words 0) i
+first_word words i h =
+    let q : i / 64 ≡ 0 = omega arith in
+    let r : i % 64 ≡ i = omega arith in
+    ap₂ (λ (x y : ℕ). bit_at (slice_index words x) y) q r
+
+pub one_row : (n w : ℕ) → 1 ≤ n → n ≤ 64 → w < 2 ^ n → IsRow n (w ∷ [])
+one_row n w some few narrow = record {
+  count = omega arith;
+  padding = λ i h. elim (cases_lt i 64) [
+    | inl l ↦ first_word (w ∷ []) i l ∙ bit_at_above w n i narrow h
+    | inr m ↦ ap (λ x. bit_at x (i % 64)) (get_or_past (w ∷ []) (i / 64) 0 (omega arith)) ∙ bit_at-zero (i % 64)
+  ];
+}
+
+pub one_chunk : (n w word j : ℕ) → n ≤ 64 → ((i : ℕ) → i < n → bit_at w i ≡ bit_at word (j * n + i)) → cells_of n (w ∷ []) ≡ chunk_of n word j
+one_chunk n w word j few h =
+    sym (same_cells n (w ∷ []) (chunk_of n word j) (length-chunk_of n word j) (λ c l.
+    get_or-chunk_of n word j c l ∙ ap (λ x. x == 1) (sym (first_word (w ∷ []) c (omega arith) ∙ h c l))))
+
+pub row_narrow : (n : ℕ) (words : List ℕ) → IsRow n words → slice_index words 0 < 2 ^ 64 → n ≤ 64 → slice_index words 0 < 2 ^ n
+row_narrow n words row word few =
+    subst (λ x. x < 2 ^ n) (same_from_bits (slice_index words 0 % 2 ^ n) (slice_index words 0) same) (mod_below (slice_index words 0) (2 ^ n) (pow_pos n))
+  where
+    whole : slice_index words 0 / 2 ^ n * 2 ^ n + slice_index words 0 % 2 ^ n ≡ slice_index words 0
+    whole = div-add-mod' (slice_index words 0) (2 ^ n)
+
+    none : (i : ℕ) → n ≤ i → bit_at (slice_index words 0) i ≡ 0
+    none i h = elim (cases_lt i 64) [
+      | inl l ↦ sym (first_word words i l) ∙ row.padding i h
+      | inr m ↦ bit_at_above (slice_index words 0) 64 i word m
+    ]
+
+    same : (i : ℕ) → bit_at (slice_index words 0 % 2 ^ n) i ≡ bit_at (slice_index words 0) i
+    same i = elim (cases_lt i n) [
+      | inl l ↦ sym (bit_at_cat_low (slice_index words 0 / 2 ^ n) n (slice_index words 0 % 2 ^ n) i l) ∙ ap (λ x. bit_at x i) whole
+      | inr m ↦ bit_at_above (slice_index words 0 % 2 ^ n) n i (mod_below (slice_index words 0) (2 ^ n) (pow_pos n)) m ∙ sym (none i m)
+    ]
+
+-- ---- one more chunk above those of a word
+
+abbrev pub joined_with : ℕ → ℕ → ℕ → ℕ
+joined_with word done w = bit_or word (w * 2 ^ done % 18446744073709551616)
+
+joined_low : (word w done more : ℕ) → word < 2 ^ done → w < 2 ^ more → done + more ≤ 64 → (i : ℕ) → i < done → bit_at (joined_with word done w) i ≡ bit_at word i
+joined_low word w done more h p fits i l = ap (λ x. bit_at x i) (taken_is word w done more h p fits) ∙ bit_at_cat_low w done word i l
+
+joined_high : (word w done more : ℕ) → word < 2 ^ done → w < 2 ^ more → done + more ≤ 64 → (i : ℕ) → bit_at (joined_with word done w) (done + i) ≡ bit_at w i
+joined_high word w done more h p fits i =
+    let back : done + i - done ≡ i = omega arith in
+    ap (λ x. bit_at x (done + i)) (taken_is word w done more h p fits) ∙ bit_at_cat_high w done word (done + i) h (omega arith) ∙ ap (bit_at w) back
+
+next : (n j : ℕ) → j * n + n ≡ (j + 1) * n
+next n j = grind arith
+
+pub joined_narrow : (n j word w : ℕ) → word < 2 ^ (j * n) → w < 2 ^ n → j * n + n ≤ 64 → joined_with word (j * n) w < 2 ^ ((j + 1) * n)
+joined_narrow n j word w h p fits = subst (λ k. joined_with word (j * n) w < 2 ^ k) (next n j) (taken_narrow word w (j * n) n h p fits)
+
+-- the earlier chunks stay
+pub joined_earlier : (n j word w i : ℕ) → word < 2 ^ (j * n) → w < 2 ^ n → j * n + n ≤ 64 → i < j → chunk_of n (joined_with word (j * n) w) i ≡ chunk_of n word i
+joined_earlier n j word w i h p fits l =
+    same_chunk_of n (joined_with word (j * n) w) word i i (λ c k.
+    joined_low word w (j * n) n h p fits (i * n + c) (omega (arith, row_fits i n j n l (omega arith))))
+
+-- and the last is the one that was joined
+pub joined_last : (n j word w : ℕ) (words : List ℕ) → word < 2 ^ (j * n) → w < 2 ^ n → j * n + n ≤ 64 → ((i : ℕ) → i < n → bit_at w i ≡ word_bit words i) →
+    chunk_of n (joined_with word (j * n) w) j ≡ cells_of n words
+joined_last n j word w words h p fits bits =
+    same_cells n words (chunk_of n (joined_with word (j * n) w) j) (length-chunk_of n _ j) (λ c l.
+    get_or-chunk_of n (joined_with word (j * n) w) j c l ∙ ap (λ x. x == 1) (joined_high word w (j * n) n h p fits c ∙ bits c l))
+
+-- chunk j of a group stands within its word
+pub within_word : (n j count : ℕ) → j < count → count * n ≤ 64 → j * n + n ≤ 64
+within_word n j count h fits = omega (arith, row_fits j n count n h (omega arith))
+
+pub carries_as : (now before : List Bool → List Bool) (old old' message message' new new' : List Bool) → ((row : List Bool) → now row ≡ before row) →
+    old ≡ old' → message ≡ message' → new ≡ new' → Carries now old message new → Carries before old' message' new'
+carries_as now before old old' message message' new new' same o m n carries = record {
+  above = λ i h. ap (λ r. cell_at r i) (sym n) ∙ carries.above i (ap (λ r. cell_at r i) o ∙ h);
+  decodes = ap before (sym n) ∙ sym (same new) ∙ carries.decodes ∙ m;
+}
+
+-- ---- groups in a row
+
+spread : (done j n c : ℕ) → (done + j) * n + c ≡ done * n + (j * n + c)
+spread done j n c = grind arith
+
+on_one_page : (size n c i : ℕ) → c < n → place size n i c ≡ i * n + c
+on_one_page size n c i h =
+    let start : 0 * n + c ≡ c = omega arith in
+    let q : c / n ≡ 0 = sym (ap (λ x. x / n) start) ∙ div-mul-add 0 n c h in
+    let r : c % n ≡ c = sym (ap (λ x. x % n) start) ∙ mod-mul-add 0 n c h in
+    let none : size * 0 + i * n + c ≡ i * n + c = omega arith in
+    ap₂ (λ (x y : ℕ). size * x + i * n + y) q r ∙ none
+
+cell_on_page : (s : Striping) (n : ℕ) (bytes : List ℕ) (i c : ℕ) → s.page_cells ≡ n → c < n → get_or (chunk_cells s n bytes i) c false ≡ is_charged bytes (i * n + c)
+cell_on_page s n bytes i c e h =
+    get_or-chunk_cells s n bytes i c h ∙ ap (λ m. is_charged bytes (place (8 * page_bytes s) m i c)) e ∙ ap (is_charged bytes) (on_one_page (8 * page_bytes s) n c i h)
+
+pub group_cells : (s : Striping) (n : ℕ) (bytes : List ℕ) (word done j : ℕ) → s.page_cells ≡ n →
+    ((c : ℕ) → c < n → charge_at bytes (done * n + (j * n + c)) ≡ bit_at word (j * n + c)) → chunk_cells s n bytes (done + j) ≡ chunk_of n word j
+group_cells s n bytes word done j e h =
+    ext_get_or false (chunk_cells s n bytes (done + j)) (chunk_of n word j) (length-chunk_cells s n bytes (done + j) ∙ sym (length-chunk_of n word j)) (λ c l.
+    let m : c < n = omega (arith, length-chunk_cells s n bytes (done + j)) in
+    cell_on_page s n bytes (done + j) c e m ∙ ap (λ x. x == 1) (ap (charge_at bytes) (spread done j n c) ∙ h c m) ∙ sym (get_or-chunk_of n word j c m))
+
+pub group_message : (s : Striping) (sector : List ℕ) (word done j : ℕ) →
+    ((i : ℕ) → i < s.message_bits → bit_at word (j * s.message_bits + i) ≡ charge_at sector (done * s.message_bits + (j * s.message_bits + i))) →
+    chunk_message s sector (done + j) ≡ chunk_of s.message_bits word j
+group_message s sector word done j h =
+    ext_get_or false (chunk_message s sector (done + j)) (chunk_of s.message_bits word j) (length-chunk_message s sector (done + j) ∙ sym (length-chunk_of s.message_bits word j)) (λ i l.
+    let m : i < s.message_bits = omega (arith, length-chunk_message s sector (done + j)) in
+    get_or-chunk_message s sector (done + j) i m ∙ ap (λ x. x == 1) (ap (charge_at sector) (spread done j s.message_bits i) ∙ sym (h i m)) ∙ sym (get_or-chunk_of s.message_bits word j i m))
+
+kept_cells : (s : Striping) (n : ℕ) (new old : List ℕ) (done j : ℕ) → s.page_cells ≡ n → j < done → ((c : ℕ) → c < done * n → charge_at new c ≡ charge_at old c) →
+    chunk_cells s n new j ≡ chunk_cells s n old j
+kept_cells s n new old done j e h below =
+    ext_get_or false (chunk_cells s n new j) (chunk_cells s n old j) (length-chunk_cells s n new j ∙ sym (length-chunk_cells s n old j)) (λ c l.
+    let m : c < n = omega (arith, length-chunk_cells s n new j) in
+    cell_on_page s n new j c e m ∙ ap (λ x. x == 1) (below (j * n + c) (omega (arith, row_fits j n done n h (omega arith)))) ∙ sym (cell_on_page s n old j c e m))
+
+-- count chunks from chunk done on: their old cells and messages stand in words, and their new cells are those of a third
+pub record IsGroup (n k done count : ℕ) (old new sector : List ℕ) (cells messages out : ℕ) : Type 0 where
+  pub same_length : length new ≡ length old
+  pub taken : (i : ℕ) → i < count * n → bit_at cells i ≡ charge_at old (done * n + i)
+  pub told : (i : ℕ) → i < count * k → bit_at messages i ≡ charge_at sector (done * k + i)
+  pub put : (i : ℕ) → i < count * n → charge_at new (done * n + i) ≡ bit_at out i
+  pub below : (c : ℕ) → c < done * n → charge_at new c ≡ charge_at old c
+  pub above : (c : ℕ) → done * n + count * n ≤ c → charge_at new c ≡ charge_at old c
+
+in_group : (n j count c : ℕ) → j < count → c < n → j * n + c < count * n
+in_group n j count c h l = omega (arith, row_fits j n count n h (omega arith))
+
+-- the chunk of a cell of the group
+chunk_in : (n count x : ℕ) → 1 ≤ n → x < count * n → x / n < count
+chunk_in n count x some h =
+    elim (cases_lt (x / n) count) [
+      | inl l ↦ l
+      | inr m ↦ absurd (omega (arith, div-add-mod' x n, mul-le count n (x / n) n m (le_self n)))
+    ]
+  where
+    le_self : (t : ℕ) → t ≤ t
+    le_self t = omega arith
+
+pub group_above : (n k done count : ℕ) (old new sector : List ℕ) (cells messages out : ℕ) (decode : List Bool → List Bool) → 1 ≤ n →
+    IsGroup n k done count old new sector cells messages out →
+    ((j : ℕ) → j < count → Carries decode (chunk_of n cells j) (chunk_of k messages j) (chunk_of n out j)) → IsAbove new old
+group_above n k done count old new sector cells messages out decode some w carries =
+    above_from new old w.same_length (λ c h. elim (cases_lt c (done * n)) [
+      | inl l ↦ ap (λ x. x == 1) (w.below c l) ∙ h
+      | inr m ↦ elim (cases_lt c (done * n + count * n)) [
+        | inr r ↦ ap (λ x. x == 1) (w.above c r) ∙ h
+        | inl l ↦ inside c m l h
+      ]
+    ])
+  where
+    inside : (c : ℕ) → done * n ≤ c → c < done * n + count * n → is_charged old c ≡ true → is_charged new c ≡ true
+    inside c m l h =
+        let x : ℕ = c - done * n in
+        let few : c - done * n < count * n = omega arith in
+        let j : ℕ = (c - done * n) / n in
+        let r : ℕ = (c - done * n) % n in
+        let below : (c - done * n) % n < n = mod_below (c - done * n) n some in
+        let whole : (c - done * n) / n * n + (c - done * n) % n ≡ c - done * n = div-add-mod' (c - done * n) n in
+        let at : done * n + ((c - done * n) / n * n + (c - done * n) % n) ≡ c = omega arith in
+        let inner : (c - done * n) / n * n + (c - done * n) % n < count * n = omega arith in
+        let chunk : (c - done * n) / n < count = chunk_in n count (c - done * n) some few in
+        let was : cell_at (chunk_of n cells ((c - done * n) / n)) ((c - done * n) % n) ≡ true =
+        get_or-chunk_of n cells ((c - done * n) / n) ((c - done * n) % n) below
+        ∙ ap (λ y. y == 1) (w.taken ((c - done * n) / n * n + (c - done * n) % n) inner ∙ ap (charge_at old) at) ∙ h in
+        let is : cell_at (chunk_of n out ((c - done * n) / n)) ((c - done * n) % n) ≡ true = (carries ((c - done * n) / n) chunk).above ((c - done * n) % n) was in
+        ap (λ y. y == 1) (ap (charge_at new) (sym at) ∙ w.put ((c - done * n) / n * n + (c - done * n) % n) inner)
+        ∙ sym (get_or-chunk_of n out ((c - done * n) / n) ((c - done * n) % n) below) ∙ is
+
+pub group_carried : (s : Striping) (n done count : ℕ) (now before : List Bool → List Bool) (old new sector : List ℕ) (cells messages out : ℕ) →
+    IsGroup n s.message_bits done count old new sector cells messages out → s.page_cells ≡ n →
+    ((j : ℕ) → j < count → Carries now (chunk_of n cells j) (chunk_of s.message_bits messages j) (chunk_of n out j)) →
+    ((row : List Bool) → now row ≡ before row) →
+    ((j : ℕ) → j < done → before (chunk_cells s n old j) ≡ chunk_message s sector j) →
+    (j : ℕ) → j < done + count → before (chunk_cells s n new j) ≡ chunk_message s sector j
+group_carried s n done count now before old new sector cells messages out w e carries same earlier j h =
+    elim (cases_lt j done) [
+      | inl l ↦ ap before (kept_cells s n new old done j e l w.below) ∙ earlier j l
+      | inr m ↦
+          let few : j - done < count = omega arith in
+          let at : done + (j - done) ≡ j = omega arith in
+          subst (λ y. before (chunk_cells s n new y) ≡ chunk_message s sector y) at
+          (ap before (group_cells s n new out done (j - done) e (λ c l. w.put ((j - done) * n + c) (in_group n (j - done) count c few l)))
+          ∙ sym (same (chunk_of n out (j - done))) ∙ (carries (j - done) few).decodes
+          ∙ sym (group_message s sector messages done (j - done) (λ i l. w.told ((j - done) * s.message_bits + i) (in_group s.message_bits (j - done) count i few l))))
+    ]
+
+-- a chunk of the group that declines
+pub group_declined : (s : Striping) (n done count j : ℕ) (now before : List Bool → List Bool) (bytes sector : List ℕ) (cells messages : ℕ) → s.page_cells ≡ n → j < count →
+    ((i : ℕ) → i < count * n → bit_at cells i ≡ charge_at bytes (done * n + i)) →
+    ((i : ℕ) → i < count * s.message_bits → bit_at messages i ≡ charge_at sector (done * s.message_bits + i)) →
+    ((row : List Bool) → now row ≡ before row) →
+    NoneCarries now n (chunk_of n cells j) (chunk_of s.message_bits messages j) → NoneCarries before n (chunk_cells s n bytes (done + j)) (chunk_message s sector (done + j))
+group_declined s n done count j now before bytes sector cells messages e h taken told same none =
+    none_carries n now before (chunk_of n cells j) (chunk_cells s n bytes (done + j)) (chunk_of s.message_bits messages j) (chunk_message s sector (done + j)) same
+    (sym (group_cells s n bytes cells done j e (λ c l. sym (taken (j * n + c) (in_group n j count c h l)))))
+    (sym (group_message s sector messages done j (λ i l. told (j * s.message_bits + i) (in_group s.message_bits j count i h l)))) none
+
+pub group_read : (s : Striping) (n done count : ℕ) (decode : List Bool → List Bool) (bytes old new : List ℕ) (cells messages : ℕ) → s.page_cells ≡ n → 1 ≤ s.message_bits →
+    length old ≡ s.sector_bytes →
+    ((i : ℕ) → i < count * n → bit_at cells i ≡ charge_at bytes (done * n + i)) →
+    ((j : ℕ) → j < count → chunk_of s.message_bits messages j ≡ decode (chunk_of n cells j)) →
+    ((i : ℕ) → i < count * s.message_bits → done * s.message_bits + i < 8 * length old → charge_at new (done * s.message_bits + i) ≡ bit_at messages i) →
+    ((c : ℕ) → c < done * s.message_bits → charge_at new c ≡ charge_at old c) →
+    ((x : ℕ) → x < done * s.message_bits → x < 8 * s.sector_bytes → is_charged old x ≡ decoded_bit s n decode bytes x) →
+    (x : ℕ) → x < (done + count) * s.message_bits → x < 8 * s.sector_bytes → is_charged new x ≡ decoded_bit s n decode bytes x
+group_read s n done count decode bytes old new cells messages e some len taken decodes put below before x h l =
+    elim (cases_lt x (done * s.message_bits)) [
+      | inl k ↦ ap (λ b. b == 1) (below x k) ∙ before x k l
+      | inr m ↦ last m
+    ]
+  where
+    last : done * s.message_bits ≤ x → is_charged new x ≡ decoded_bit s n decode bytes x
+    last m =
+        let k : ℕ = s.message_bits in
+        let all : (done + count) * s.message_bits + 0 ≡ done * s.message_bits + (count * s.message_bits + 0) = spread done count s.message_bits 0 in
+        let few : x - done * s.message_bits < count * s.message_bits = omega arith in
+        let j : ℕ = (x - done * s.message_bits) / s.message_bits in
+        let r : ℕ = (x - done * s.message_bits) % s.message_bits in
+        let short : (x - done * s.message_bits) % s.message_bits < s.message_bits = mod_below (x - done * s.message_bits) s.message_bits some in
+        let whole : (x - done * s.message_bits) / s.message_bits * s.message_bits + (x - done * s.message_bits) % s.message_bits ≡ x - done * s.message_bits = div-add-mod' (x - done * s.message_bits) s.message_bits in
+        let chunk : (x - done * s.message_bits) / s.message_bits < count = chunk_in s.message_bits count (x - done * s.message_bits) some few in
+        let at : done * s.message_bits + ((x - done * s.message_bits) / s.message_bits * s.message_bits + (x - done * s.message_bits) % s.message_bits) ≡ x = omega arith in
+        let place : (done + (x - done * s.message_bits) / s.message_bits) * s.message_bits + (x - done * s.message_bits) % s.message_bits ≡ x =
+        spread done ((x - done * s.message_bits) / s.message_bits) s.message_bits ((x - done * s.message_bits) % s.message_bits) ∙ at in
+        let q : done + (x - done * s.message_bits) / s.message_bits ≡ x / s.message_bits =
+        sym (sym (ap (λ y. y / s.message_bits) place) ∙ div-mul-add (done + (x - done * s.message_bits) / s.message_bits) s.message_bits ((x - done * s.message_bits) % s.message_bits) short) in
+        let t : (x - done * s.message_bits) % s.message_bits ≡ x % s.message_bits =
+        sym (sym (ap (λ y. y % s.message_bits) place) ∙ mod-mul-add (done + (x - done * s.message_bits) / s.message_bits) s.message_bits ((x - done * s.message_bits) % s.message_bits) short) in
+        ap (λ y. y == 1) (ap (charge_at new) (sym at) ∙ put ((x - done * s.message_bits) / s.message_bits * s.message_bits + (x - done * s.message_bits) % s.message_bits) (omega arith) (omega arith))
+        ∙ sym (get_or-chunk_of s.message_bits messages ((x - done * s.message_bits) / s.message_bits) ((x - done * s.message_bits) % s.message_bits) short)
+        ∙ ap (λ cs. get_or cs ((x - done * s.message_bits) % s.message_bits) false)
+        (decodes ((x - done * s.message_bits) / s.message_bits) chunk
+        ∙ ap decode (sym (group_cells s n bytes cells done ((x - done * s.message_bits) / s.message_bits) e
+        (λ c d. sym (taken ((x - done * s.message_bits) / s.message_bits * n + c) (in_group n ((x - done * s.message_bits) / s.message_bits) count c chunk d))))))
+        ∙ ap₂ (λ (a b : ℕ). get_or (decode (chunk_cells s n bytes a)) b false) q t
+
+-- the group stands within the page
+pub group_within : (s : Striping) (n done count : ℕ) → s.page_cells ≡ n → 1 ≤ count → done + count ≤ chunks s → done * n + count * n ≤ 8 * page_bytes s
+group_within s n done count e some h =
+    let last : (done + (count - 1)) * s.page_cells + s.page_cells ≤ 8 * page_bytes s = chunk_within s (done + (count - 1)) (omega arith) in
+    subst (λ m. done * m + count * m ≤ 8 * page_bytes s) e (subst (λ x. x ≤ 8 * page_bytes s) (whole done (count - 1) count s.page_cells (omega arith)) last)
+  where
+    whole : (d c count m : ℕ) → c + 1 ≡ count → (d + c) * m + m ≡ d * m + count * m
+    whole d c count m f = subst (λ t. (d + c) * m + m ≡ d * m + t * m) f (parts d c m)
+      where
+        parts : (d c m : ℕ) → (d + c) * m + m ≡ d * m + (c + 1) * m
+        parts d c m = grind arith
+
+-- sizes of a unit of one page
+pub one_span : (n span m : ℕ) → n ≡ span * m → span ≡ 1 → m ≡ n
+one_span n span m e one = let f : span * m ≡ 1 * m = ap (λ t. t * m) one in omega arith
+
+pub both_parts : (done count n : ℕ) → (done + count) * n ≡ done * n + count * n
+both_parts done count n = grind arith
+
+pub some_product : (a b : ℕ) → 1 ≤ a → 1 ≤ b → 1 ≤ a * b
+some_product a b h l = omega (arith, mul-le 1 1 a b h l)
