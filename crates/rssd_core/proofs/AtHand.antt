@@ -1,11 +1,9 @@
 -- A put of a single record on the page at hand: what it leaves, finished or failed.
-use Rattle.std.proofs.Common.{◌≡◌, ◌≢◌, ◌⊎◌, inl, inr, ℕ, ◌+◌, ◌*◌, ◌/◌, ◌^◌, ◌<◌, ◌≤◌, Bool, true, false, List, drop, length, if◌then◌else◌, Option, Some, refl, sym, ap, ap₂, ◌∙◌, subst, arith}
+use Rattle.std.proofs.Common.{◌≡◌, inl, inr, ℕ, ◌+◌, ◌*◌, ◌/◌, ◌^◌, ◌<◌, ◌≤◌, true, false, List, drop, length, if◌then◌else◌, Option, Some, refl, sym, ap, ap₂, ◌∙◌, subst, arith}
 use Rattle.std.specs.Prelude.{slice_set}
 use Rattle.std.proofs.lemmas.Bool.{cases_lt, cases_Bool}
-use Rattle.std.proofs.lemmas.Nat.{div-mul-add}
 use Rattle.zero_count.specs.declared.Header.{Header}
 use Rattle.zero_count.specs.HeaderWord.{IsHeader}
-use Rattle.cell_die.specs.declared.shape.Shape.{Shape}
 use Rattle.cell_die.specs.DieState.{DieState, IsShaped, page_of}
 use Rattle.cell_die.specs.Calls.{Kept, Passed, ChangeFailed}
 use Rattle.striped.specs.Meaning.{Decoding}
@@ -18,20 +16,20 @@ use Rattle.block_state.specs.State.{is_active}
 use Rattle.block_state.specs.Book.{BookValue, state_at, live_at}
 use Rattle.page_alloc.specs.CleanPage.{IsPageBranch}
 use Rattle.page_codec.specs.declared.place.Place.{Place}
-use Rattle.page_codec.specs.Geometry.{Geometry, shape_of, page_count, block_of}
-use Rattle.page_codec.specs.Puts.{Puts, first_slot, is_gated}
-use Rattle.page_codec.specs.Records.{Placed, header_in, is_copy}
+use Rattle.page_codec.specs.Geometry.{Geometry, shape_of}
+use Rattle.page_codec.specs.Puts.{Puts, first_slot}
+use Rattle.page_codec.specs.Records.{header_in, is_copy}
 use Rattle.page_codec.specs.Sectors.{said_by, stored}
 use Rattle.page_codec.specs.TrueBook.{IsTrue, IsTrueState, IsTrueActive, IsNextSeq, entry_of}
 use Rattle.page_codec.proofs.PutCells.{put_cells}
 use Rattle.collector.specs.Effects.{after_record, filled, recorded, former_in, block_in, MayDrop}
-use Rattle.collector.specs.Store.{Store, store, Holds, IsTrueStore, SameRows}
+use Rattle.collector.specs.Store.{Store, store, Holds, IsTrueStore}
 use Rattle.collector.proofs.Books.{active_within}
 use Rattle.collector.proofs.NextPage.{PutsNext, next_page, next_page_within, next_gate, block_of_next, may_hold_next, none_committed, stored_before_gate, wins_from_gate, stores_from_gate}
 use Rattle.collector.proofs.Tables.{room_true, former_true, effect_true}
 use Rattle.collector.proofs.Fresh.{put_holds, free_spare, free_after, next_record}
 use Rattle.collector.proofs.Rows.{rows_after}
-use Rattle.rssd_core.specs.Steps.{IsSized, SetsRow, PutNext, PutNextFailed, former_block}
+use Rattle.rssd_core.specs.Steps.{IsSized, PutNext, PutNextFailed}
 
 -- the next seq is greater than that of every valid header, where it is far from the greatest number
 pub fresh_seq : (g : Geometry) (cells : List (List ℕ)) (seq : ℕ) → IsNextSeq g cells seq → seq < 2 ^ 62 + 2 ^ 8 → (place : Place) (k : Header) → header_in g cells place ≡ Some k → k.seq < seq

@@ -1,5 +1,5 @@
 -- What each state of a block says of the cells stays where the block's pages and live records stay.
-use Rattle.std.proofs.Common.{◌≡◌, ◌≢◌, inl, inr, ℕ, zero, suc, ◌+◌, ◌*◌, ◌/◌, ◌%◌, ◌<◌, ◌≤◌, Bool, true, false, List, drop, ◌&&◌, ◌==◌, Option, Some, None, refl, sym, ap, ap₂, ◌∙◌, subst, arith}
+use Rattle.std.proofs.Common.{◌≡◌, ◌≢◌, inl, inr, ℕ, zero, suc, ◌+◌, ◌*◌, ◌/◌, ◌%◌, ◌<◌, ◌≤◌, Bool, true, List, drop, Option, Some, None, refl, sym, ap, ◌∙◌, subst, arith}
 use Rattle.std.specs.List.{list_all, range_with_len}
 use Rattle.std.proofs.lemmas.Bool.{and_parts, and_from, cases_Bool, false≢true, eqb-true, eq-eqb}
 use Rattle.std.proofs.lemmas.Nat.{div-mul-add, div-add-mod'}
@@ -11,7 +11,7 @@ use Rattle.block_state.specs.declared.state.State.TheVariants.{Clean, Active, Us
 use Rattle.page_codec.specs.Geometry.{Geometry, block_of, units, unit_page, spare_at}
 use Rattle.page_codec.specs.Records.{Placed, live_record}
 use Rattle.page_codec.specs.Sound.{live_count, stands_in}
-use Rattle.page_codec.specs.TrueBook.{BlankAbove, IsTrueState, IsTrueSpare, IsTrueActive, IsTrueUsed, IsTrueRecycled, is_block_blank}
+use Rattle.page_codec.specs.TrueBook.{BlankAbove, IsTrueState, is_block_blank}
 use Rattle.rssd_core.specs.Steps.{IsSized}
 use Rattle.collector.proofs.Counting.{none_pass, none_passes}
 

@@ -1,20 +1,17 @@
 -- Steps one after another: what they keep, the calls that they make, and the book changes that they are.
-use Rattle.std.proofs.Common.{◌≡◌, ◌⊎◌, inl, inr, ℕ, ◌+◌, ◌-◌, ◌<◌, ◌≤◌, Bool, true, false, cond, List, [], ◌∷◌, ◌++◌, Option, Some, None, refl, sym, ap, ap₂, ◌∙◌, subst, arith}
+use Rattle.std.proofs.Common.{◌≡◌, ◌⊎◌, inl, inr, ℕ, ◌+◌, ◌<◌, ◌≤◌, Bool, true, cond, List, [], ◌∷◌, ◌++◌, Option, Some, None, refl, ◌∙◌, subst, arith}
 use Rattle.std.specs.Prelude.{IsSomeAnd}
-use Rattle.std.specs.List.{count_by, sum_by}
+use Rattle.std.specs.List.{count_by}
 use Rattle.std.proofs.lemmas.List.Sums.{sum_by-append}
 use Rattle.cell_die.specs.DieState.{DieState, Failures}
 use Rattle.cell_die.specs.Calls.{Kept, Passed, PassedWithin, ChangeFailed, ReadFailed, Nearer, NearerWithin, WhilePowered}
 use Rattle.cell_die.specs.Calls as cell
 use Rattle.cell_die.specs.Counts.{Rose, Stayed}
 use Rattle.cell_die.proofs.Sequences.{kept_trans, passed_trans, passed_within}
-use Rattle.zero_count.specs.declared.Header.{Header}
 use Rattle.block_state.specs.Book.{BookValue}
-use Rattle.page_codec.specs.declared.place.Place.{Place}
 use Rattle.page_codec.specs.Geometry.{Geometry}
-use Rattle.page_codec.specs.Records.{header_in}
 use Rattle.page_codec.specs.Sound.{IsSound}
-use Rattle.collector.specs.Store.{Store, Holds, DrewSeqs}
+use Rattle.collector.specs.Store.{Store, Holds}
 use Rattle.rssd_core.specs.BookChanges.{Change, Leads, UsesRule}
 use Rattle.rssd_core.specs.Failures.{TellsPower, CutCame, cut_in, cut_of}
 use Rattle.rssd_core.specs.Within.{Went}

@@ -1,8 +1,7 @@
 -- A page that a collection gives, and a collection that failed, as the ways to a page at hand.
-use Rattle.std.proofs.Common.{◌≡◌, ◌≢◌, inl, inr, ℕ, ◌+◌, ◌*◌, ◌^◌, ◌<◌, ◌≤◌, Bool, true, false, List, [], ◌∷◌, length, Option, Some, None, refl, sym, ap, ap₂, ◌∙◌, subst, arith}
+use Rattle.std.proofs.Common.{◌≡◌, ◌≢◌, ℕ, ◌+◌, ◌*◌, ◌^◌, ◌<◌, Bool, true, false, List, [], ◌∷◌, length, Option, Some, None, refl, sym, ap, ◌∙◌, subst, arith}
 use Rattle.std.specs.List.{reduce}
 use Rattle.std.proofs.lemmas.Bool.{false≢true}
-use Rattle.cell_die.specs.DieState.{DieState}
 use Rattle.cell_die.specs.Calls.{PassedWithin, ReadFailed, ChangeFailed}
 use Rattle.striped.specs.Meaning.{Decoding}
 use Rattle.block_state.specs.declared.state.State.{State}
@@ -14,7 +13,7 @@ use Rattle.page_alloc.specs.declared.next_page.NextPage.TheVariants.{Page, Colle
 use Rattle.page_alloc.specs.CleanPage.{IsPageBranch, IsCollectBranch}
 use Rattle.mount_scan.specs.Settled.{is_clean}
 use Rattle.page_codec.specs.Geometry.{Geometry}
-use Rattle.collector.specs.Store.{Store, IsTrueStore, SameRows}
+use Rattle.collector.specs.Store.{Store, IsTrueStore}
 use Rattle.collector.specs.Effects.{sealed}
 use Rattle.collector.specs.Collections.{Collected, CollectReadFailed, CollectChangeFailed, Marks, as_it_was, erased, copied_to, erased_and_copied_to}
 use Rattle.collector.proofs.Books.{state_here, state_there}
@@ -23,7 +22,7 @@ use Rattle.rssd_core.specs.BookChanges.{Change, Erases, Copies, Seals, Leads, Ea
 use Rattle.rssd_core.specs.Calls.{calls_before, collection_reads, named_page}
 use Rattle.rssd_core.specs.Moves.{sealed_records}
 use Rattle.rssd_core.specs.Steps.{Opened, OpenReadFailed, OpenChangeFailed}
-use Rattle.rssd_core.specs.Within.{Went, IsCollect}
+use Rattle.rssd_core.specs.Within.{IsCollect}
 use Rattle.rssd_core.proofs.Chained.{leads_none, leads_one, leads_append}
 use Rattle.rssd_core.proofs.ClosedBlocks.{closed_not_spare, within_blocks}
 use Rattle.rssd_core.proofs.PassedBook.{first_same, first_passes}

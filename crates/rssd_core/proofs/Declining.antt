@@ -1,22 +1,19 @@
 -- A declined unit and what follows it, and a put over a unit that failed, from their steps to the contract.
-use Rattle.std.proofs.Common.{◌≡◌, ◌≢◌, ◌⊎◌, inl, inr, ℕ, ◌+◌, ◌*◌, ◌^◌, ◌<◌, ◌≤◌, Bool, true, false, List, [], ◌∷◌, ◌++◌, Option, Some, None, refl, sym, ap, ap₂, ◌∙◌, subst, arith}
-use Rattle.std.proofs.lemmas.Option.{same_Some, none-some}
-use Rattle.zero_count.specs.declared.Header.{Header}
-use Rattle.cell_die.specs.DieState.{DieState}
+use Rattle.std.proofs.Common.{◌≡◌, inl, inr, ℕ, ◌+◌, ◌^◌, ◌<◌, ◌≤◌, true, false, List, [], ◌∷◌, Option, refl, sym, ap, ap₂, ◌∙◌, subst, arith}
+use Rattle.std.proofs.lemmas.Option.{same_Some}
 use Rattle.cell_die.specs.Calls.{Passed, PassedWithin, ChangeFailed, ReadFailed}
 use Rattle.cell_die.proofs.Sequences.{passed_trans, passed_within, change_failed_after, read_failed_after}
 use Rattle.block_state.specs.Book.{BookValue, live_at}
 use Rattle.page_alloc.specs.declared.next_page.NextPage.{NextPage}
-use Rattle.page_alloc.specs.declared.next_page.NextPage.TheVariants.{Collect}
 use Rattle.reuse_pool.specs.declared.unit.ReuseUnit.{ReuseUnit}
-use Rattle.reuse_pool.specs.Offer.{IsOffer, passed}
+use Rattle.reuse_pool.specs.Offer.{IsOffer}
 use Rattle.reuse_pool.specs.Recycling.{Recycles}
 use Rattle.page_codec.specs.Sectors.{stored}
 use Rattle.page_codec.specs.Sound.{IsSound}
 use Rattle.collector.specs.Store.{Store, IsTrueStore}
 use Rattle.collector.specs.Store as stores
 use Rattle.rssd_core.specs.Rules.{next_page, offer_of}
-use Rattle.rssd_core.specs.BookChanges.{Change, Passes, Offers, Leads, EachOnce, passes, is_pass}
+use Rattle.rssd_core.specs.BookChanges.{Change, Passes, Offers, Leads, EachOnce, is_pass}
 use Rattle.rssd_core.specs.Calls.{calls_before, collection_reads, named_page, offer_reads}
 use Rattle.rssd_core.specs.DeviceValue.{Numbers}
 use Rattle.rssd_core.specs.Moves.{sealed_records}

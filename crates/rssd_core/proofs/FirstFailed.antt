@@ -1,26 +1,21 @@
 -- A write to a clean page that failed, from its steps to the contract.
-use Rattle.std.proofs.Common.{◌≡◌, ◌≢◌, ◌⊎◌, inl, inr, ℕ, ◌+◌, ◌*◌, ◌^◌, ◌<◌, ◌≤◌, Bool, true, false, List, [], ◌∷◌, ◌++◌, nat_lt, if◌then◌else◌, Option, Some, None, refl, sym, ap, ap₂, ◌∙◌, subst, arith}
+use Rattle.std.proofs.Common.{◌≡◌, inl, inr, ℕ, ◌+◌, ◌^◌, ◌<◌, ◌≤◌, Bool, true, false, List, [], ◌∷◌, ◌++◌, nat_lt, if◌then◌else◌, refl, sym, ap, ◌∙◌, subst, arith}
 use Rattle.std.specs.Prelude.{slice_set}
 use Rattle.std.proofs.lemmas.Bool.{lt-ltb}
 use Rattle.std.proofs.lemmas.Bool.Decides.{nat_tests}
-use Rattle.zero_count.specs.declared.Header.{Header}
-use Rattle.cell_die.specs.DieState.{DieState}
 use Rattle.cell_die.specs.Counts.{count_sum}
-use Rattle.cell_die.specs.Calls.{ChangeFailed}
 use Rattle.block_state.specs.Book.{BookValue, live_at}
 use Rattle.page_alloc.specs.declared.next_page.NextPage.{NextPage}
-use Rattle.page_alloc.specs.declared.next_page.NextPage.TheVariants.{Collect}
 use Rattle.reuse_pool.specs.Recycling.{Recycles}
 use Rattle.collector.specs.Store.{Store, store, IsTrueStore}
 use Rattle.collector.specs.Store as stores
 use Rattle.rssd_core.specs.Rules.{next_page, offer_of}
-use Rattle.rssd_core.specs.BookChanges.{Change, Offers, Leads, EachOnce, passes, is_pass}
-use Rattle.rssd_core.specs.Calls.{calls_before, clean_calls, collection_calls, collection_reads, offer_reads}
-use Rattle.rssd_core.specs.DeviceValue.{Numbers, rows_of}
+use Rattle.rssd_core.specs.BookChanges.{Offers, Leads, is_pass}
+use Rattle.rssd_core.specs.Calls.{calls_before, collection_calls, collection_reads, offer_reads}
+use Rattle.rssd_core.specs.DeviceValue.{Numbers}
 use Rattle.rssd_core.specs.Failures.{cut_of}
 use Rattle.rssd_core.specs.Outcomes.{WriteFault}
-use Rattle.rssd_core.specs.Steps.{OpenedAfter, OpenReadFailed, OpenChangeFailed, PutNextFailed, SetsRow}
-use Rattle.rssd_core.specs.Within.{Went}
+use Rattle.rssd_core.specs.Steps.{OpenedAfter, OpenReadFailed, OpenChangeFailed, PutNextFailed}
 use Rattle.rssd_core.specs.Writes.{OfferCarries}
 use Rattle.rssd_core.proofs.Chained.{change_failed_then, cut_later, cut_within, read_failed_no_cut, leads_append, leads_one, count_by-append}
 use Rattle.rssd_core.proofs.WroteFirst.{view_at, moves_seq, once_append, sealed_offers}

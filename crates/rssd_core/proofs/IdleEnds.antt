@@ -1,5 +1,5 @@
 -- One move more, and how the moves of an idle call end.
-use Rattle.std.proofs.Common.{◌≡◌, inl, ℕ, ◌+◌, ◌<◌, ◌≤◌, List, length, Option, Some, refl, sym, ap, ◌∙◌, subst}
+use Rattle.std.proofs.Common.{◌≡◌, inl, ℕ, ◌+◌, ◌^◌, ◌<◌, ◌≤◌, List, length, Option, Some, refl, sym, ap, ◌∙◌, subst}
 use Rattle.cell_die.specs.declared.shape.Shape.{Shape}
 use Rattle.striped.specs.Meaning.{Meaning, Decoding}
 use Rattle.sector_map.specs.declared.entry.Entry.{Entry}
@@ -48,8 +48,10 @@ module _ (g h : Geometry) (d e : Decoding) (numbers : h ≡ g) (decoding : e ≡
   none_more n k at_most run left same = subst (MovesEnded g d n k old) (sym same) (record { run = run; at_most = at_most; all = λ less. inl left })
 
   -- a call failed
-  pub failed_move : (n k : ℕ) (fault : PutFault) → k < n → MovesRun g d k old mid → Holds h mid new
+  pub failed_move : (n k : ℕ) (fault : PutFault) → k < n → MovesRun g d k old mid → Holds h mid new → (NoMoveLeft mid.book → ⊥) → mid.seq < 2 ^ 62
       → (fault ≡ Read → MoveReadFailed h mid new) → (fault ≡ Change → MoveChangeFailed h e mid new)
       → MovesEnd g d n k (Some fault) old new
-  failed_move n k Read less run holds read change = record { mid = mid; run = run; some_left = less; failed = read_failed_by (read refl); holds = holds_by holds }
-  failed_move n k Change less run holds read change = record { mid = mid; run = run; some_left = less; failed = change_failed_by (change refl); holds = holds_by holds }
+  failed_move n k Read less run holds one_more fresh read change =
+      record { mid = mid; run = run; some_left = less; one_more = one_more; fresh = fresh; failed = read_failed_by (read refl); holds = holds_by holds }
+  failed_move n k Change less run holds one_more fresh read change =
+      record { mid = mid; run = run; some_left = less; one_more = one_more; fresh = fresh; failed = change_failed_by (change refl); holds = holds_by holds }

@@ -1,5 +1,5 @@
 -- An idle call, from its moves and the recycling that follows to the contract.
-use Rattle.std.proofs.Common.{◌≡◌, inl, inr, ℕ, ◌+◌, ◌*◌, ◌<◌, ◌≤◌, Bool, true, false, List, [], ◌∷◌, ◌++◌, Option, refl, sym, ap, ◌∙◌, subst, arith}
+use Rattle.std.proofs.Common.{◌≡◌, ◌⊎◌, inl, inr, ℕ, ◌+◌, ◌*◌, ◌<◌, ◌≤◌, Bool, true, false, List, [], ◌∷◌, ◌++◌, Option, refl, sym, ap, ◌∙◌, subst, arith}
 use Rattle.std.proofs.lemmas.List.Elements.{All-push}
 use Rattle.std.proofs.lemmas.Bool.{false≢true}
 use Rattle.cell_die.specs.Counts.{count_sum}
@@ -16,15 +16,16 @@ use Rattle.collector.specs.Moves.{MoveReadFailed, MoveChangeFailed, move_reads}
 use Rattle.collector.specs.Store.{Store, IsTrueStore}
 use Rattle.collector.specs.Store as stores
 use Rattle.rssd_core.specs.BookChanges.{Change, Offers, Leads, is_idle}
-use Rattle.rssd_core.specs.DeviceValue.{Numbers, DeviceValue}
+use Rattle.rssd_core.specs.DeviceValue.{Numbers, DeviceView, DeviceValue}
 use Rattle.rssd_core.specs.Idle.{MovesRun, MovesEnded, MovesFailed}
-use Rattle.rssd_core.specs.Moves.{IdleMoves}
+use Rattle.rssd_core.specs.IdleRule.{IdleMoves, MoveUnread, MoveBroken, IdleUnfinished}
 use Rattle.rssd_core.specs.Outcomes.{Holds, Idled, IdleFault, IdleMay}
 use Rattle.rssd_core.specs.Within.{Finished}
 use Rattle.rssd_core.proofs.Chained.{holds_trans, leads_append, leads_one, no_cut_came, change_failed_then, cut_later, cut_within, read_failed_no_cut}
 use Rattle.rssd_core.proofs.IdleCalls.{read_failed_then}
-use Rattle.rssd_core.proofs.IdleLeft.{none_left_after}
-use Rattle.rssd_core.proofs.IdleRun.{FillsOnly, run_holds, run_rows, run_seq, run_tables, run_calls, run_fills, run_order, run_few}
+use Rattle.rssd_core.proofs.ByRule.{moment, rule_none}
+use Rattle.rssd_core.proofs.IdleLeft.{none_left_after, none_left_by}
+use Rattle.rssd_core.proofs.IdleRun.{FillsOnly, RanByRule, run_holds, run_rows, run_seq, run_tables, run_calls, run_fills, run_order, run_by_rule, run_few}
 use Rattle.rssd_core.proofs.WroteFirst.{view_at, moves_seq}
 
 -- a device over a store, with these tallies
@@ -74,27 +75,40 @@ module _ (d : Numbers) (k : ℕ) (old mid : Store) (t : IsTrueStore d.geometry o
   fills = run_fills d.geometry d.meaning.decoding k old mid run t
 
   few : k ≤ 128
-  few = run_few d.geometry d.meaning.decoding k old mid run t
+  few = run_few d k old mid run t
 
   seq_is : mid.seq ≡ old.seq + k
   seq_is = run_seq d.geometry d.meaning.decoding k old mid run
 
   -- the sectors that moved
-  moves : (first second declined moved moved' : ℕ) (book : BookValue) → IdleMoves d (view_at old first second declined moved) (view_at (with_book mid book) first second declined moved') k
-  moves first second declined moved moved' book = elim (run_order d.geometry d.meaning.decoding k old mid run t) [
-    | inr o ↦ (o.block, o.fill, o.sectors, o.count, λ some. o.active, record { distinct = o.distinct; moved = o.moved; others = o.others })
-    | inl none ↦ (
-      0,
-      0,
-      [],
-      sym none.0,
-      λ some. absurd (omega (arith, none.0)),
-      record {
+  moves : (first second declined moved moved' : ℕ) (book : BookValue) → Recycles d.reuse_max mid.book book → IdleMoves d (view_at old first second declined moved) (view_at (with_book mid book) first second declined moved') k
+  moves first second declined moved moved' book recycles = elim (run_order d k old mid run t) [
+    | inr o ↦ record {
+      sectors = o.sectors;
+      count = o.count;
+      block = o.block;
+      fill = o.fill;
+      active = λ some. o.active;
+      in_order = record { distinct = o.distinct; moved = o.moved; others = o.others };
+      book = mid.book;
+      by_rule = o.by_rule;
+      recycled = recycles;
+    }
+    | inl none ↦ record {
+      sectors = [];
+      count = sym none.0;
+      block = 0;
+      fill = 0;
+      active = λ some. absurd (omega (arith, none.0));
+      in_order = record {
         distinct = λ i j before within. absurd (omega arith);
         moved = λ i within. absurd (omega arith);
         others = λ sector apart. subst (λ (s : Store). live_record d.geometry s.die.cells sector ≡ live_record d.geometry old.die.cells sector) none.1 refl;
-      },
-    )
+      };
+      book = mid.book;
+      by_rule = rule_none d (moment old) (moment mid) (ap moment (sym none.1));
+      recycled = recycles;
+    }
   ]
 
   -- the book by the moves, and then by the recycling
@@ -119,7 +133,7 @@ idled d n k old new book first second declined moved stopped t e recycles = reco
     | inl left ↦ inl (none_left_after d.reuse_max new.book book recycles left)
     | inr spent ↦ inr spent
   ];
-  moves = moves d k old new t e.run first second declined moved (count_sum moved k) book;
+  moves = moves d k old new t e.run first second declined moved (count_sum moved k) book recycles;
   calls = calls d k old new t e.run;
   book = record {
     changes = recycled_changes d k old new t e.run;
@@ -135,6 +149,28 @@ idled d n k old new book first second declined moved stopped t e recycles = reco
   counts = record { first = refl; second = refl; declined = refl };
   running = refl;
 }
+
+-- ---- a call failed
+
+-- the moves that were finished, and the one that was not
+unfinished : (d : Numbers) (n k : ℕ) (old new : Store) (Failed : Store → Type 0) (first second declined moved : ℕ) (after : DeviceView) → IsTrueStore d.geometry old
+    → (e : MovesFailed d.geometry d.meaning.decoding n k old new Failed) → Finished (view_at old first second declined moved) after k
+    → MoveUnread d (moment e.mid) after ⊎ MoveBroken d (moment e.mid) after → IdleUnfinished d n (view_at old first second declined moved) after
+unfinished d n k old new Failed first second declined moved after t e finished how = record {
+  sectors = ran.sectors;
+  some_left = subst (λ (made : ℕ). made < n) (sym ran.count) e.some_left;
+  finished = subst (λ (made : ℕ). Finished (view_at old first second declined moved) after made) (sym ran.count) finished;
+  mid = moment e.mid;
+  by_rule = ran.by_rule;
+  one_more = λ none. elim none [
+    | inl fits ↦ e.one_more (none_left_by e.mid.book (run_tables d.geometry d.meaning.decoding k old e.mid e.run t).kept fits)
+    | inr spent ↦ omega (arith, e.fresh, spent)
+  ];
+  unfinished = how;
+}
+  where
+    ran : RanByRule d k old e.mid
+    ran = run_by_rule d k old e.mid e.run t
 
 -- ---- a read failed
 
@@ -160,9 +196,11 @@ idle_read_failed d n k old new book first second declined moved stopped t e recy
     rows = ap (stored d.geometry d.meaning.decoding) e.failed.cells.cells ∙ run_rows d.geometry d.meaning.decoding k old e.mid e.run;
     running = refl;
   });
+  moves = unfinished d n k old new (λ mid. MoveReadFailed d.geometry mid new) first second declined moved (view_at (with_book new book) first second declined (count_sum moved k)) t e finished
+      (inl (record { cells = e.failed.cells; seq = ap (λ (s : Store). s.seq) e.failed.same; recycled = recycled; failed = e.failed.failed }));
   book = record {
     changes = recycled_changes d k old e.mid t e.run;
-    leads = leads_recycled d k old e.mid t e.run book (subst (λ (v : BookValue). Recycles d.reuse_max v book) (ap (λ (s : Store). s.book) e.failed.same) recycles);
+    leads = leads_recycled d k old e.mid t e.run book recycled;
     may = idle_recycled d k old e.mid t e.run;
     rise = k;
     rises = finished;
@@ -174,6 +212,9 @@ idle_read_failed d n k old new book first second declined moved stopped t e recy
   counts = record { first = refl; second = refl; declined = refl };
 }
   where
+    recycled : Recycles d.reuse_max e.mid.book book
+    recycled = subst (λ (v : BookValue). Recycles d.reuse_max v book) (ap (λ (s : Store). s.book) e.failed.same) recycles
+
     seq_now : new.seq ≡ old.seq + k
     seq_now = ap (λ (s : Store). s.seq) e.failed.same ∙ seq_is d k old e.mid t e.run
 
@@ -200,6 +241,8 @@ idle_change_failed d n k old new first second declined moved stopped t e = recor
     rows = λ sound. inl (e.failed.rows ∙ run_rows d.geometry d.meaning.decoding k old e.mid e.run);
     stopped = refl;
   });
+  moves = unfinished d n k old new (λ mid. MoveChangeFailed d.geometry d.meaning.decoding mid new) first second declined moved (view_at new first second declined (count_sum moved k)) t e finished
+      (inr (record { rows = e.failed.rows; seq = ap (λ (s : Store). s.seq) e.failed.same; book = ap (λ (s : Store). s.book) e.failed.same; failed = e.failed.failed }));
   book = record {
     changes = (fills d k old e.mid t e.run).changes;
     leads = subst (Leads d.reuse_max old.book (fills d k old e.mid t e.run).changes) (sym (ap (λ (s : Store). s.book) e.failed.same)) ((fills d k old e.mid t e.run).leads d.reuse_max);

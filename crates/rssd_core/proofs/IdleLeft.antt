@@ -1,5 +1,5 @@
--- Where no idle victim fits the room, none fits it after the recycling rule: it moves no live record, and no block opens or closes.
-use Rattle.std.proofs.Common.{◌≡◌, ◌≢◌, inl, inr, ℕ, ◌<◌, ◌≤◌, Bool, true, false, List, length, get_or, Option, Some, None, refl, sym, ap, ◌∙◌, arith, get_or-set_same, get_or-set_other}
+-- The room for idle moves. Where no idle victim fits it, none does after the recycling rule: it moves no live record, and no block opens or closes.
+use Rattle.std.proofs.Common.{◌≡◌, ◌≢◌, inl, inr, ℕ, ◌-◌, ◌<◌, ◌≤◌, Bool, true, false, List, length, get_or, Option, Some, None, refl, sym, ap, ◌∙◌, arith, subst, get_or-set_same, get_or-set_other}
 use Rattle.std.proofs.lemmas.Bool.{cases_eq, cases_lt, false≢true}
 use Rattle.std.proofs.lemmas.List.{get_or_past}
 use Rattle.std.specs.List.{position, position_or_len}
@@ -9,12 +9,13 @@ use Rattle.std.proofs.lemmas.List.Sums.{fails_before_first}
 use Rattle.block_state.specs.declared.state.State.{State}
 use Rattle.block_state.specs.declared.state.State.TheVariants.{Clean, Active, Used, Recycled, Reused, Spare}
 use Rattle.block_state.specs.State.{is_active, is_closed}
-use Rattle.block_state.specs.Book.{BookValue, NoneActive, IsClosed, state_at, with_state}
+use Rattle.block_state.specs.Book.{BookValue, NoneActive, IsClosed, IsValid, state_at, with_state}
 use Rattle.block_state.specs.Victim.{NoneFits}
 use Rattle.reuse_pool.specs.Recycling.{IsDue, Recycles, is_used, recycled}
 use Rattle.reuse_pool.proofs.Steps.{due_within, kept_by_run}
 use Rattle.collector.specs.Moves.{IsRoom, NoMoveLeft}
-use Rattle.rssd_core.specs.Rules.{fill_of, first_block, room_in}
+use Rattle.rssd_core.specs.Rules.{fill_of, first_block, room_in, room_left}
+use Rattle.rssd_core.proofs.Rules as rules
 
 -- ---- one use of the recycling rule
 
@@ -84,7 +85,7 @@ none_passes p xs i d e within =
     let past : length xs ≤ position_or_len p xs = grind (arith, common_steps) in
     fails_before_first p xs i d (omega arith)
 
-is_room : (v : BookValue) → IsRoom v (room_in v (first_block is_active v))
+is_room : (v : BookValue) → IsRoom v (room_left v)
 is_room v = at (first_block is_active v) refl
   where
     at : (o : Option ℕ) → first_block is_active v ≡ o → IsRoom v (room_in v o)
@@ -97,5 +98,17 @@ is_room v = at (first_block is_active v) refl
         ]
     at (Some b) e = inl (b, fill_of (state_at v b), active_is (state_at v b) (position-Some is_active v.states b Clean e).1, refl)
 
-pub none_left_after : (few : ℕ) (v w : BookValue) → Recycles few v w → NoMoveLeft v → NoneFits w 1 (room_in w (first_block is_active w))
-none_left_after few v w run left = left_by_run few v w run left (room_in w (first_block is_active w)) (is_room w)
+pub none_left_after : (few : ℕ) (v w : BookValue) → Recycles few v w → NoMoveLeft v → NoneFits w 1 (room_left w)
+none_left_after few v w run left = left_by_run few v w run left (room_left w) (is_room w)
+
+-- ---- the room is one
+
+pub room_active : (v : BookValue) → IsValid v → (block fill : ℕ) → state_at v block ≡ Active fill → room_left v ≡ v.pages - fill
+room_active v valid block fill active = ap (room_in v) (rules.active_is v valid block (ap is_active active)) ∙ ap (λ (s : State). v.pages - fill_of s) active
+
+room_is : (v : BookValue) → IsValid v → (room : ℕ) → IsRoom v room → room_left v ≡ room
+room_is v valid room (inl (block, fill, active, is)) = room_active v valid block fill active ∙ sym is
+room_is v valid room (inr (none, is)) = ap (room_in v) (rules.first_none v is_active (λ b within hit. none b hit)) ∙ sym is
+
+pub none_left_by : (v : BookValue) → IsValid v → NoneFits v 1 (room_left v) → NoMoveLeft v
+none_left_by v valid none room is = subst (NoneFits v 1) (room_is v valid room is) none

@@ -10,7 +10,7 @@ use Rattle.block_state.specs.Book.{BookValue}
 use Rattle.reuse_pool.specs.Recycling.{Recycles}
 use Rattle.page_codec.specs.declared.fault.PutFault.{PutFault}
 use Rattle.page_codec.specs.declared.fault.PutFault.TheVariants.{Read, Change}
-use Rattle.page_codec.specs.Geometry.{Geometry, units}
+use Rattle.page_codec.specs.Geometry.{Geometry}
 use Rattle.page_codec.specs.Sizes.{Sizes, Serves, ServesScheme}
 use Rattle.page_codec.specs.TrueBook.{IsTrueBook}
 use Rattle.mount_scan.proofs.TrueRun.{true_book_by_run}

@@ -26,8 +26,11 @@ use Rattle.collector.proofs.Books.{recorded_states, active_within, state_here, s
 use Rattle.collector.proofs.Tables.{filled_is, next_state}
 use Rattle.rssd_core.specs.BookChanges.{Change, Fills, Leads, filled_in, is_idle}
 use Rattle.rssd_core.specs.Rules.{fill_of, first_block, next_page}
+use Rattle.rssd_core.specs.DeviceValue.{Numbers}
 use Rattle.rssd_core.specs.Idle.{MovesRun, none, more}
+use Rattle.rssd_core.specs.IdleRule.{MovesByRule}
 use Rattle.rssd_core.proofs.BlockLaws.{block_of_page}
+use Rattle.rssd_core.proofs.ByRule.{moment, move_by_rule, rule_none, rule_append}
 use Rattle.rssd_core.proofs.Chained.{holds_trans, within_trans, leads_append, leads_one, leads_none}
 use Rattle.rssd_core.proofs.Rules.{next_is, active_is}
 
@@ -101,41 +104,43 @@ run_fills g d _ _ _ (more k old mid new run moved holds) t =
 -- ---- where the records went
 
 -- The live records of k sectors stand in order on the Active block's pages from `fill` on. It has room for more, or is closed.
-pub record InOrder (g : Geometry) (k : ℕ) (old new : Store) : Type 0 where
+pub record InOrder (d : Numbers) (k : ℕ) (old new : Store) : Type 0 where
   pub block : ℕ
   pub fill : ℕ
   pub sectors : List ℕ
   pub count : length sectors ≡ k
   pub active : state_at old.book block ≡ Active fill
-  pub room : fill + k ≤ g.pages
+  pub room : fill + k ≤ d.geometry.pages
   pub now : (state_at new.book block ≡ Active (fill + k)) ⊎ NoneActive new.book
   pub distinct : (i j : ℕ) → i < j → j < length sectors → slice_index sectors i ≢ slice_index sectors j
-  pub moved : (i : ℕ) → i < length sectors → (header : Header) × (live_record g new.die.cells (slice_index sectors i) ≡ Some (record { place = first_slot (block * g.pages + fill + i); header = header }))
-  pub others : (sector : ℕ) → (Contains sectors sector → ⊥) → live_record g new.die.cells sector ≡ live_record g old.die.cells sector
+  pub moved : (i : ℕ) → i < length sectors → (header : Header) × (live_record d.geometry new.die.cells (slice_index sectors i) ≡ Some (record { place = first_slot (block * d.geometry.pages + fill + i); header = header }))
+  pub others : (sector : ℕ) → (Contains sectors sector → ⊥) → live_record d.geometry new.die.cells sector ≡ live_record d.geometry old.die.cells sector
+  pub by_rule : MovesByRule d sectors (moment old) (moment new)
 
 fill_is : (a b : ℕ) → Active a ≡ Active b → a ≡ b
 fill_is a b e = ap fill_of e
 
-module _ (g : Geometry) (d : Decoding) (old new : Store) (t : IsTrueStore g old) (m : Moved g d old new) where
-  inside : m.block < g.blocks
+module _ (d : Numbers) (old new : Store) (t : IsTrueStore d.geometry old) (m : Moved d.geometry d.meaning.decoding old new) where
+  inside : m.block < d.geometry.blocks
   inside = subst (λ (n : ℕ). m.block < n) t.sizes.blocks (active_within old.book m.block m.fill m.active)
 
-  room_left : m.fill < g.pages
-  room_left = (subst (IsTrueState g old.die.cells m.block) m.active (t.states m.block inside)).room
+  has_room : m.fill < d.geometry.pages
+  has_room = (subst (IsTrueState d.geometry old.die.cells m.block) m.active (t.states m.block inside)).room
 
   -- nothing moved yet
-  start : InOrder g 0 old old
+  start : InOrder d 0 old old
   start = record {
     block = m.block;
     fill = m.fill;
     sectors = [];
     count = refl;
     active = m.active;
-    room = omega (arith, room_left);
+    room = omega (arith, has_room);
     now = inl (subst (λ (n : ℕ). state_at old.book m.block ≡ Active n) plus_none m.active);
     distinct = λ i j before within. absurd (omega arith);
     moved = λ i within. absurd (omega arith);
     others = λ sector apart. refl;
+    by_rule = rule_none d (moment old) (moment old) refl;
   }
     where
       plus_none : m.fill ≡ m.fill + 0
@@ -173,7 +178,7 @@ module _ (g : Geometry) (d : Decoding) (old new : Store) (t : IsTrueStore g old)
       ]
 
 -- one more
-module _ (g : Geometry) (d : Decoding) (k : ℕ) (old mid new : Store) (t : IsTrueStore g mid) (o : InOrder g k old mid) (m : Moved g d mid new) where
+module _ (d : Numbers) (k : ℕ) (old mid new : Store) (t : IsTrueStore d.geometry mid) (o : InOrder d k old mid) (m : Moved d.geometry d.meaning.decoding mid new) where
   same : (m.block ≡ o.block) × (m.fill ≡ o.fill + k)
   same = elim o.now [
     | inr closed ↦ absurd (closed m.block (ap is_active m.active))
@@ -204,9 +209,9 @@ module _ (g : Geometry) (d : Decoding) (k : ℕ) (old mid new : Store) (t : IsTr
   fresh : (i : ℕ) → i < length o.sectors → slice_index o.sectors i ≢ m.first.header.sector
   fresh i within e =
       let there = o.moved i within in
-      let place : m.first ≡ record { place = first_slot (o.block * g.pages + o.fill + i); header = there.0 } = same_placed (sym m.is_first.live ∙ (ap (live_record g mid.die.cells) (sym e) ∙ there.1)) in
-      let less : o.fill + i < g.pages = omega (arith, within, o.count, o.room) in
-      let victim : m.victim ≡ o.block = sym m.is_first.inside ∙ (ap (λ (x : Placed). block_of g x.place.page) place ∙ (ap (block_of g) (around o.block g.pages o.fill i) ∙ block_of_page g o.block (o.fill + i) less)) in
+      let place : m.first ≡ record { place = first_slot (o.block * d.geometry.pages + o.fill + i); header = there.0 } = same_placed (sym m.is_first.live ∙ (ap (live_record d.geometry mid.die.cells) (sym e) ∙ there.1)) in
+      let less : o.fill + i < d.geometry.pages = omega (arith, within, o.count, o.room) in
+      let victim : m.victim ≡ o.block = sym m.is_first.inside ∙ (ap (λ (x : Placed). block_of d.geometry x.place.page) place ∙ (ap (block_of d.geometry) (around o.block d.geometry.pages o.fill i) ∙ block_of_page d.geometry o.block (o.fill + i) less)) in
       false≢true (sym (ap (λ (b : ℕ). is_closed (state_at mid.book b)) (victim ∙ sym same.0) ∙ ap is_closed m.active) ∙ m.is_victim.0.closed)
     where
       same_placed : {x y : Placed} → Some x ≡ Some y → x ≡ y
@@ -215,15 +220,15 @@ module _ (g : Geometry) (d : Decoding) (k : ℕ) (old mid new : Store) (t : IsTr
       around : (b p f i : ℕ) → b * p + f + i ≡ b * p + (f + i)
       around b p f i = omega arith
 
-  order : InOrder g (k + 1) old new
+  order : InOrder d (k + 1) old new
   order = record {
     block = o.block;
     fill = o.fill;
     sectors = longer;
     count = omega (arith, long, o.count);
     active = o.active;
-    room = omega (arith, same.1, room_left g d mid new t m);
-    now = elim (now_active g d mid new t m) [
+    room = omega (arith, same.1, has_room d mid new t m);
+    now = elim (now_active d mid new t m) [
       | inr closed ↦ inr closed
       | inl active ↦ inl (subst (λ (b : ℕ). state_at new.book b ≡ Active (o.fill + (k + 1))) same.0 (active ∙ ap Active (omega (arith, same.1))))
     ];
@@ -234,13 +239,14 @@ module _ (g : Geometry) (d : Decoding) (k : ℕ) (old mid new : Store) (t : IsTr
     moved = λ i within. elim (cases_lt i (length o.sectors)) [
       | inl inside ↦ (
           let there = o.moved i inside in
-          (there.0, ap (live_record g new.die.cells) (below i inside) ∙ (m.others (slice_index o.sectors i) (fresh i inside) ∙ there.1)))
+          (there.0, ap (live_record d.geometry new.die.cells) (below i inside) ∙ (m.others (slice_index o.sectors i) (fresh i inside) ∙ there.1)))
       | inr past ↦ (
           let e : i ≡ length o.sectors = omega (arith, past, within, long) in
-          let page : m.block * g.pages + m.fill ≡ o.block * g.pages + o.fill + i = ap (λ (b : ℕ). b * g.pages + m.fill) same.0 ∙ next (o.block * g.pages) i e in
-          (own, ap (live_record g new.die.cells) (at_last i e) ∙ (m.live ∙ ap (λ (p : ℕ). Some (record { place = first_slot p; header = own })) page)))
+          let page : m.block * d.geometry.pages + m.fill ≡ o.block * d.geometry.pages + o.fill + i = ap (λ (b : ℕ). b * d.geometry.pages + m.fill) same.0 ∙ next (o.block * d.geometry.pages) i e in
+          (own, ap (live_record d.geometry new.die.cells) (at_last i e) ∙ (m.live ∙ ap (λ (p : ℕ). Some (record { place = first_slot p; header = own })) page)))
     ];
     others = λ s apart. m.others s (λ e. apart (Contains-append_right o.sectors (m.first.header.sector ∷ []) s (only s e))) ∙ o.others s (λ there. apart (Contains-append_left o.sectors (m.first.header.sector ∷ []) s there));
+    by_rule = rule_append d o.sectors m.first.header.sector (moment old) (moment mid) (moment new) o.by_rule (move_by_rule d mid new t m);
   }
     where
       own : Header
@@ -252,19 +258,31 @@ module _ (g : Geometry) (d : Decoding) (k : ℕ) (old mid new : Store) (t : IsTr
       only : (s : ℕ) → s ≡ m.first.header.sector → Contains (m.first.header.sector ∷ []) s
       only s e = (0, omega arith, sym e)
 
-pub run_order : (g : Geometry) (d : Decoding) (k : ℕ) (old new : Store) → MovesRun g d k old new → IsTrueStore g old → ((k ≡ 0) × (old ≡ new)) ⊎ InOrder g k old new
-run_order g d _ _ _ (none old) t = inl (refl, refl)
-run_order g d _ _ _ (more k old mid new run m holds) t =
-    let tables = run_tables g d k old mid run t in
-    let so_far : InOrder g k old mid = elim (run_order g d k old mid run t) [
+pub run_order : (d : Numbers) (k : ℕ) (old new : Store) → MovesRun d.geometry d.meaning.decoding k old new → IsTrueStore d.geometry old → ((k ≡ 0) × (old ≡ new)) ⊎ InOrder d k old new
+run_order d _ _ _ (none old) t = inl (refl, refl)
+run_order d _ _ _ (more k old mid new run m holds) t =
+    let tables = run_tables d.geometry d.meaning.decoding k old mid run t in
+    let so_far : InOrder d k old mid = elim (run_order d k old mid run t) [
       | inr o ↦ o
-      | inl start_of ↦ subst (λ (n : ℕ). InOrder g n old mid) (sym start_of.0) (subst (λ (s : Store). InOrder g 0 s mid) (sym start_of.1) (start g d mid new tables m))
+      | inl start_of ↦ subst (λ (n : ℕ). InOrder d n old mid) (sym start_of.0) (subst (λ (s : Store). InOrder d 0 s mid) (sym start_of.1) (start d mid new tables m))
     ] in
-    inr (order g d k old mid new tables so_far m)
+    inr (order d k old mid new tables so_far m)
+
+-- the moves by the idle-move rule
+pub record RanByRule (d : Numbers) (k : ℕ) (old new : Store) : Type 0 where
+  pub sectors : List ℕ
+  pub count : length sectors ≡ k
+  pub by_rule : MovesByRule d sectors (moment old) (moment new)
+
+pub run_by_rule : (d : Numbers) (k : ℕ) (old new : Store) → MovesRun d.geometry d.meaning.decoding k old new → IsTrueStore d.geometry old → RanByRule d k old new
+run_by_rule d k old new run t = elim (run_order d k old new run t) [
+  | inr o ↦ record { sectors = o.sectors; count = o.count; by_rule = o.by_rule }
+  | inl start_of ↦ record { sectors = []; count = sym start_of.0; by_rule = rule_none d (moment old) (moment new) (ap moment (sym start_of.1)) }
+]
 
 -- a call moves at most as many records as a block has pages
-pub run_few : (g : Geometry) (d : Decoding) (k : ℕ) (old new : Store) → MovesRun g d k old new → IsTrueStore g old → k ≤ 128
-run_few g d k old new run t = elim (run_order g d k old new run t) [
+pub run_few : (d : Numbers) (k : ℕ) (old new : Store) → MovesRun d.geometry d.meaning.decoding k old new → IsTrueStore d.geometry old → k ≤ 128
+run_few d k old new run t = elim (run_order d k old new run t) [
   | inl start_of ↦ omega (arith, start_of.0)
   | inr o ↦ omega (arith, o.room, t.sizes.pages, t.kept.few_pages)
 ]

@@ -1,5 +1,5 @@
 -- What a device keeps after a call.
-use Rattle.std.proofs.Common.{◌≡◌, ◌⊎◌, inl, inr, ℕ, ◌+◌, ◌-◌, ◌*◌, ◌<◌, ◌≤◌, Bool, true, false, List, length, Option, Result, Ok, Err, refl, sym, ap, ◌∙◌, subst}
+use Rattle.std.proofs.Common.{◌≡◌, inl, inr, ℕ, ◌-◌, ◌*◌, ◌<◌, ◌≤◌, Bool, false, List, length, Option, Ok, Err, sym, subst}
 use Rattle.cell_die.specs.declared.shape.Shape.{Shape}
 use Rattle.cell_die.specs.DieState.{DieState}
 use Rattle.cell_die.specs.Calls.{Kept}
@@ -18,7 +18,7 @@ use Rattle.collector.specs.Store.{Store, store, geometry_of, IsTrueStore}
 use Rattle.collector.specs.Store as stores
 use Rattle.rssd_core.specs.declared.device.Placed.{Placed}
 use Rattle.rssd_core.specs.declared.device.Placed.TheVariants.{First, Second, Declined}
-use Rattle.rssd_core.specs.DeviceValue.{Numbers, DeviceView, DeviceValue}
+use Rattle.rssd_core.specs.DeviceValue.{Numbers, DeviceView}
 use Rattle.rssd_core.specs.Kept.{IsKept}
 use Rattle.rssd_core.specs.Outcomes.{Holds, Wrote, WriteFault}
 use Rattle.rssd_core.specs.Placing.{PlaceEnds}

@@ -1,5 +1,5 @@
 -- How a page comes to hand without a collection: it was at hand, a Clean block is taken, or the victim is erased.
-use Rattle.std.proofs.Common.{◌≡◌, ◌⊎◌, inl, inr, ℕ, ◌+◌, ◌*◌, ◌^◌, ◌<◌, ◌≤◌, true, false, List, [], ◌∷◌, length, Option, Some, None, refl, sym, ap, ◌∙◌, subst, arith}
+use Rattle.std.proofs.Common.{◌≡◌, ◌⊎◌, ℕ, ◌+◌, ◌*◌, [], ◌∷◌, refl, sym, ap, ◌∙◌, subst, arith}
 use Rattle.cell_die.specs.DieState.{DieState, IsShaped}
 use Rattle.cell_die.specs.declared.shape.Shape.{Shape}
 use Rattle.cell_die.specs.Changes.{IsErased, SameCells, OnlyBlock, ErasedInPart}
@@ -7,15 +7,15 @@ use Rattle.cell_die.specs.Calls.{Passed, Kept, ChangeFailed}
 use Rattle.cell_die.proofs.Sequences.{passed_none}
 use Rattle.striped.specs.Meaning.{Meaning, Decoding}
 use Rattle.block_state.specs.declared.state.State.TheVariants.{Active}
-use Rattle.block_state.specs.Book.{BookValue, state_at, live_at, with_state}
+use Rattle.block_state.specs.Book.{with_state}
 use Rattle.page_alloc.specs.declared.next_page.NextPage.{NextPage}
 use Rattle.page_alloc.specs.declared.next_page.NextPage.TheVariants.{Page, Take, Wipe, Collect}
 use Rattle.page_alloc.specs.CleanPage.{IsPageBranch, IsTakeBranch, IsWipeBranch}
 use Rattle.page_codec.specs.Geometry.{Geometry, shape_of}
-use Rattle.collector.specs.Store.{Store, IsTrueStore, SameRows, geometry_of}
+use Rattle.collector.specs.Store.{Store, IsTrueStore, geometry_of}
 use Rattle.collector.proofs.Books.{state_here}
 use Rattle.rssd_core.specs.Rules.{next_page}
-use Rattle.rssd_core.specs.BookChanges.{Change, Takes, Wipes, EachOnce}
+use Rattle.rssd_core.specs.BookChanges.{Takes, Wipes}
 use Rattle.rssd_core.specs.Calls.{calls_before, collection_reads, named_page}
 use Rattle.rssd_core.specs.Steps.{IsSized, Opened, OpenChangeFailed}
 use Rattle.rssd_core.specs.Within.{Went, IsCollect}

@@ -1,25 +1,24 @@
 -- A block without live records and without charged cells becomes Active with its first page next: the tables stay true.
-use Rattle.std.proofs.Common.{◌≡◌, ◌≢◌, inl, inr, ℕ, ◌+◌, ◌*◌, ◌/◌, ◌<◌, ◌≤◌, Bool, true, false, List, length, map, Option, Some, None, refl, sym, ap, ◌∙◌, subst, arith, length-set}
+use Rattle.std.proofs.Common.{◌≡◌, ◌≢◌, inl, inr, ℕ, ◌+◌, ◌*◌, ◌<◌, true, false, List, length, map, Option, Some, refl, sym, ap, ◌∙◌, subst, length-set}
 use Rattle.std.specs.List.{range_with_len}
-use Rattle.std.proofs.lemmas.Bool.{cases_eq, false≢true}
+use Rattle.std.proofs.lemmas.Bool.{cases_eq}
 use Rattle.zero_count.specs.declared.Header.{Header}
 use Rattle.cell_die.specs.Cells.{page_at, is_blank}
 use Rattle.sector_map.specs.declared.entry.Entry.{Entry}
 use Rattle.block_state.specs.declared.state.State.{State}
-use Rattle.block_state.specs.declared.state.State.TheVariants.{Clean, Active, Spare}
+use Rattle.block_state.specs.declared.state.State.TheVariants.{Active}
 use Rattle.block_state.specs.State.{is_spare}
-use Rattle.block_state.specs.Book.{BookValue, state_at, live_at, with_state, NoneActive}
+use Rattle.block_state.specs.Book.{BookValue, state_at, with_state, NoneActive}
 use Rattle.page_alloc.specs.CleanPage.{IsTakeBranch}
 use Rattle.page_codec.specs.declared.place.Place.{Place}
-use Rattle.page_codec.specs.Geometry.{Geometry, block_of, units, unit_page}
-use Rattle.page_codec.specs.Records.{Placed, header_in, live_record}
-use Rattle.page_codec.specs.Sound.{live_count}
+use Rattle.page_codec.specs.Geometry.{Geometry, block_of, unit_page}
+use Rattle.page_codec.specs.Records.{header_in, live_record}
 use Rattle.page_codec.specs.TrueBook.{IsTrue, IsTrueState, IsNextSeq, HasSizes, entry_of, live_map}
 use Rattle.page_codec.proofs.SoundErase.{live_count_same}
 use Rattle.collector.proofs.Books.{valid_state, state_here, state_there, spare_stays}
 use Rattle.rssd_core.proofs.BlankPages.{blank_slot}
 use Rattle.rssd_core.specs.Steps.{IsSized}
-use Rattle.rssd_core.proofs.BlockLaws.{BlockStays, state_stays, block_of_page, block_of_unit, blank_in_block}
+use Rattle.rssd_core.proofs.BlockLaws.{state_stays, block_of_page, block_of_unit, blank_in_block}
 
 -- no live record changes, headers only vanish, and the pages of this block alone change: they are blank
 pub record Blanks (g : Geometry) (old new : List (List ℕ)) (block : ℕ) : Type 0 where

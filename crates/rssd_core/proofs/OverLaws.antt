@@ -1,46 +1,41 @@
 -- A put over the offered unit: what each of its outcomes leaves.
-use Rattle.std.proofs.Common.{◌≡◌, ◌≢◌, ◌⊎◌, inl, inr, ℕ, zero, suc, ◌+◌, ◌*◌, ◌/◌, ◌^◌, ◌<◌, ◌≤◌, Bool, true, false, List, ◌++◌, drop, take, length, if◌then◌else◌, ◌==◌, Option, Some, Result, Ok, Err, refl, sym, ap, ap₂, ◌∙◌, subst, arith}
+use Rattle.std.proofs.Common.{◌≡◌, ◌≢◌, inl, inr, ℕ, zero, suc, ◌+◌, ◌*◌, ◌/◌, ◌^◌, ◌<◌, Bool, true, false, List, drop, take, length, if◌then◌else◌, ◌==◌, Option, Some, refl, sym, ap, ap₂, ◌∙◌, subst, arith}
 use Rattle.std.specs.Prelude.{slice_set}
 use Rattle.std.specs.List.{flat_map, range_with_len}
 use Rattle.std.proofs.lemmas.Bool.{cases_Bool, false≢true, ne_eqb}
-use native.Mathlib.Nat.{mul-le-mul_right}
-use Rattle.std.proofs.Math.Nat.{mul-le-mul}
 use Rattle.zero_count.specs.declared.Header.{Header}
-use Rattle.zero_count.specs.HeaderWord.{IsHeader}
 use Rattle.cell_die.specs.declared.shape.Shape.{Shape}
 use Rattle.cell_die.specs.Cells.{page_at, IsAbove}
 use Rattle.cell_die.specs.DieState.{DieState, IsShaped, page_of}
 use Rattle.cell_die.specs.Changes.{SameCells}
-use Rattle.cell_die.specs.Calls.{Kept, Passed, ChangeFailed, ReadFailed}
+use Rattle.cell_die.specs.Calls.{Kept, Passed, ChangeFailed}
 use Rattle.cell_bits.proofs.Above.{above_refl, above_trans}
 use Rattle.cell_bits.proofs.Slices.{above_take}
-use Rattle.striped.specs.Meaning.{Meaning, Decoding, Decodes, IsSector, NoneCarries}
+use Rattle.striped.specs.Meaning.{Meaning, Decodes, IsSector, NoneCarries}
 use Rattle.spare_gate.specs.Slots.{is_gate_charged}
 use Rattle.sector_map.specs.declared.entry.Entry.{Entry}
 use Rattle.sector_map.specs.declared.entry.Entry.TheVariants.{Held}
-use Rattle.sector_map.specs.Entry.{entry_at, place_of}
 use Rattle.block_state.specs.declared.state.State.{State}
 use Rattle.block_state.specs.declared.state.State.TheVariants.{Clean, Active, Used, Recycled, Reused, Spare}
 use Rattle.block_state.specs.State.{is_active, is_spare}
-use Rattle.block_state.specs.Book.{BookValue, state_at, live_at, with_state}
+use Rattle.block_state.specs.Book.{BookValue, state_at, live_at}
 use Rattle.reuse_pool.specs.declared.unit.ReuseUnit.{ReuseUnit}
 use Rattle.reuse_pool.specs.Offer.{IsOffer, passed}
 use Rattle.page_codec.specs.declared.place.Place.{Place}
-use Rattle.page_codec.specs.Geometry.{Geometry, shape_of, page_count, block_of, main_at, unit_at, unit_page}
+use Rattle.page_codec.specs.Geometry.{Geometry, main_at, unit_at, unit_page}
 use Rattle.page_codec.specs.Puts.{Puts, SecondCarries, is_gated}
 use Rattle.page_codec.specs.Units.{place_of as slot_at}
-use Rattle.page_codec.specs.Records.{header_in}
 use Rattle.page_codec.specs.Sectors.{said_by, stored, says_zeros, zero_sector}
 use Rattle.page_codec.specs.Sizes.{Sizes, Serves, ServesScheme}
 use Rattle.page_codec.specs.Sound.{live_count}
-use Rattle.page_codec.specs.TrueBook.{IsTrue, IsTrueState, IsTrueRecycled, entry_of}
+use Rattle.page_codec.specs.TrueBook.{IsTrue, IsTrueState, IsTrueRecycled}
 use Rattle.page_codec.proofs.PutCells.{put_cells}
 use Rattle.page_codec.proofs.PutUnit.{above_append}
-use Rattle.collector.specs.Effects.{after_record, filled, recorded, former_in, block_in, MayDrop}
-use Rattle.collector.specs.Store.{Store, store, geometry_of, Holds, IsTrueStore, SameRows}
+use Rattle.collector.specs.Effects.{after_record, filled, recorded, block_in, MayDrop}
+use Rattle.collector.specs.Store.{Store, store, geometry_of, Holds, IsTrueStore}
 use Rattle.collector.proofs.Books.{spare_within}
 use Rattle.collector.proofs.Fresh.{PutsRecord, put_holds, free_after}
-use Rattle.rssd_core.specs.Steps.{IsSized, SetsRow, PutOver, OverDeclined, OverReadFailed, OverChangeFailed, former_block, place_in, bytes_in, passing}
+use Rattle.rssd_core.specs.Steps.{IsSized, PutOver, OverDeclined, OverChangeFailed, former_block, place_in, passing}
 use Rattle.rssd_core.proofs.AtHand.{fresh_seq}
 use Rattle.rssd_core.proofs.Passing.{offered_state, WritesOver, second_true, still_offered, pass_true, over_room, former_drops}
 use Rattle.rssd_core.proofs.SecondWrite.{PutsOver, over_gate, unit_below, block_is, gate_before, holds_record, stored_before_gate, wins_from_gate, rows_from_gate}

@@ -1,22 +1,21 @@
 -- The pass of the offered unit, after a second write or alone: the tables are true.
-use Rattle.std.proofs.Common.{◌≡◌, ◌≢◌, ◌⊎◌, inl, inr, ℕ, ◌+◌, ◌*◌, ◌^◌, ◌<◌, ◌≤◌, Bool, true, false, IsTrue as Passes, List, length, if◌then◌else◌, ◌==◌, Option, Some, None, refl, sym, ap, ap₂, ◌∙◌, subst, arith, length-set}
+use Rattle.std.proofs.Common.{◌≡◌, ◌≢◌, inl, inr, ℕ, ◌+◌, ◌*◌, ◌<◌, Bool, true, false, IsTrue as Passes, List, length, if◌then◌else◌, ◌==◌, Option, Some, refl, sym, ap, ap₂, ◌∙◌, subst, arith}
 use Rattle.std.specs.Prelude.{slice_set}
-use Rattle.std.proofs.lemmas.Bool.{cases_eq, cases_lt, eq-eqb, ne_eqb, false≢true}
+use Rattle.std.proofs.lemmas.Bool.{cases_eq, eq-eqb, ne_eqb, false≢true}
 use Rattle.zero_count.specs.declared.Header.{Header}
 use Rattle.sector_map.specs.declared.entry.Entry.{Entry}
 use Rattle.sector_map.specs.Entry.{entry_at}
 use Rattle.block_state.specs.declared.state.State.{State}
-use Rattle.block_state.specs.declared.state.State.TheVariants.{Clean, Used, Recycled, Reused}
+use Rattle.block_state.specs.declared.state.State.TheVariants.{Used, Recycled, Reused}
 use Rattle.block_state.specs.State.{is_active, is_spare, InRange}
-use Rattle.block_state.specs.Book.{BookValue, IsActive, IsValid, state_at, live_at, with_state, HasOneSpare}
+use Rattle.block_state.specs.Book.{BookValue, IsValid, state_at, live_at, with_state, HasOneSpare}
 use Rattle.reuse_pool.specs.declared.unit.ReuseUnit.{ReuseUnit}
 use Rattle.reuse_pool.specs.Offer.{IsOffer, is_recycled, passed}
-use Rattle.page_codec.specs.declared.place.Place.{Place}
-use Rattle.page_codec.specs.Geometry.{Geometry, block_of, units, unit_page}
-use Rattle.page_codec.specs.Records.{Placed, header_in, live_record}
+use Rattle.page_codec.specs.Geometry.{Geometry, units}
+use Rattle.page_codec.specs.Records.{live_record}
 use Rattle.page_codec.specs.Gate.{GateWins}
 use Rattle.page_codec.specs.Sound.{live_count}
-use Rattle.page_codec.specs.TrueBook.{IsTrue, IsTrueState, IsTrueRecycled, IsNextSeq, HasSizes, entry_of, live_map}
+use Rattle.page_codec.specs.TrueBook.{IsTrue, IsTrueState, IsTrueRecycled, IsNextSeq, HasSizes, entry_of}
 use Rattle.page_codec.proofs.PutLaws.{header_after}
 use Rattle.collector.specs.Effects.{recorded, former_in, MayDrop}
 use Rattle.collector.proofs.Books.{SameStates, one_at, one_in, recorded_states, valid_recorded, recorded_live, valid_state, spare_stays, state_here, state_there}

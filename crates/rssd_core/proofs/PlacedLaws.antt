@@ -1,5 +1,5 @@
 -- How the put of a write ends is what the contract says of the whole write.
-use Rattle.std.proofs.Common.{◌≡◌, ◌≢◌, ◌⊎◌, inl, inr, ℕ, ◌+◌, ◌*◌, ◌^◌, ◌<◌, ◌≤◌, Bool, true, false, List, length, Option, Some, None, Result, Ok, Err, refl, sym, ap, ap₂, ◌∙◌, subst, arith}
+use Rattle.std.proofs.Common.{◌≡◌, inl, inr, ℕ, ◌^◌, ◌<◌, Bool, true, false, List, Ok, Err, refl, sym, ◌∙◌, subst, arith}
 use Rattle.std.proofs.lemmas.Option.{none-some}
 use Rattle.cell_die.specs.Counts.{count_sum}
 use Rattle.block_state.specs.Book.{BookValue}
@@ -10,17 +10,14 @@ use Rattle.collector.specs.Store.{Store, IsTrueStore}
 use Rattle.collector.specs.Store as stores
 use Rattle.rssd_core.specs.declared.device.Placed.{Placed}
 use Rattle.rssd_core.specs.declared.device.Placed.TheVariants.{First, Second, Declined}
-use Rattle.rssd_core.specs.Rules.{offer_of}
-use Rattle.rssd_core.specs.Calls.{offer_reads}
-use Rattle.rssd_core.specs.DeviceValue.{Numbers, DeviceValue}
+use Rattle.rssd_core.specs.DeviceValue.{Numbers}
 use Rattle.rssd_core.specs.Outcomes.{Wrote, WriteFault, firsts, seconds, declines}
 use Rattle.striped.specs.Meaning.{Decoding}
 use Rattle.page_codec.specs.Geometry.{Geometry}
 use Rattle.reuse_pool.specs.declared.unit.ReuseUnit.{ReuseUnit}
 use Rattle.reuse_pool.specs.Offer.{IsOffer}
 use Rattle.rssd_core.specs.Steps.{OverEnds, OverDeclined}
-use Rattle.rssd_core.specs.Placing.{header_at, CleanEnds, CleanPut, CleanPutFailed, PlaceEnds, NotOffered, Turned, Carried, UnitUnread, UnitFailed}
-use Rattle.rssd_core.specs.Writes.{OfferCarries}
+use Rattle.rssd_core.specs.Placing.{header_at, CleanEnds, PlaceEnds, NotOffered, Turned, Carried}
 use Rattle.rssd_core.proofs.Declining.{declines_not, offer_declines, offer_reads_are, declined_opened, declined_read_failed, declined_change_failed, over_read_failed, over_change_failed}
 use Rattle.rssd_core.proofs.FirstFailed.{put_failed, open_failed, open_read_failed}
 use Rattle.rssd_core.proofs.Rules.{no_offer_is}

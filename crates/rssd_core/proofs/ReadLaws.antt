@@ -1,12 +1,10 @@
 -- The row of a map's entry is the stored sector, and the pages of a held record are pages of the die.
-use Rattle.std.proofs.Common.{◌≡◌, ◌≢◌, inl, inr, ℕ, ◌+◌, ◌-◌, ◌*◌, ◌<◌, ◌≤◌, Bool, true, false, List, [], length, if◌then◌else◌, ◌==◌, Option, Some, None, refl, sym, ap, ap₂, ◌∙◌, subst, arith}
+use Rattle.std.proofs.Common.{◌≡◌, ℕ, ◌+◌, ◌-◌, ◌<◌, ◌≤◌, Bool, true, false, List, [], length, if◌then◌else◌, ◌==◌, Option, Some, None, refl, sym, ap, ◌∙◌, subst, arith}
 use Rattle.std.specs.Prelude.{slice_index_or}
-use Rattle.std.proofs.lemmas.Bool.{cases_Bool, false≢true, eq-eqb}
 use Rattle.cell_die.specs.declared.shape.Shape.{Shape}
 use Rattle.cell_die.specs.DieState.{DieState, page_count}
 use Rattle.striped.specs.Meaning.{Meaning}
 use Rattle.sector_map.specs.declared.entry.Entry.{Entry}
-use Rattle.sector_map.specs.declared.entry.Entry.TheVariants.{Held, Zeros}
 use Rattle.sector_map.specs.Entry.{entry_at}
 use Rattle.block_state.specs.Book.{BookValue}
 use Rattle.page_codec.specs.Geometry.{Geometry, block_of}
@@ -14,16 +12,12 @@ use Rattle.page_codec.specs.Records as records
 use Rattle.page_codec.specs.Records.{live_record}
 use Rattle.page_codec.specs.Sectors.{says_zeros, said_by, stored}
 use Rattle.page_codec.specs.TrueBook.{IsTrue, entry_of}
-use Rattle.page_codec.specs.Units.{place_of, reads_of}
-use Rattle.page_codec.proofs.Live.{committed_holds, live_counts}
-use Rattle.page_codec.proofs.SoundErase.{unit_page_from_slot}
 use Rattle.collector.specs.Store.{geometry_of}
 use Rattle.collector.proofs.Rows.{row_of}
 use Rattle.collector.proofs.Room as room
 use Rattle.rssd_core.specs.Calls.{get_reads}
 use Rattle.rssd_core.specs.Steps.{IsSized}
 use Rattle.rssd_core.specs.EntryRow.{entry_row, entry_reads, HasPages}
-use Rattle.rssd_core.proofs.BlockLaws.{block_of_page}
 use Rattle.rssd_core.proofs.RecordLaws.{entry_is, block_below}
 use Rattle.rssd_core.proofs.Wiping.{read_in_block, page_below}
 

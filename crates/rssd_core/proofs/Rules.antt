@@ -42,7 +42,7 @@ module _ (v : BookValue) (test : State → Bool) where
       let t : ltb b (length v.states) ≡ true = grind (arith, nat_tests) in
       ap (λ n. cond (ltb n (length v.states)) (Some n) None) e ∙ ap (λ t. cond t (Some b) None) t
 
-  first_none : ((b : ℕ) → b < length v.states → test (state_at v b) ≡ true → ⊥) → first_block test v ≡ None
+  pub first_none : ((b : ℕ) → b < length v.states → test (state_at v b) ≡ true → ⊥) → first_block test v ≡ None
   first_none none =
       let e = no_place test Clean v.states (λ c lt. not_true (test (state_at v c)) (none c lt)) in
       let t : ltb (length v.states) (length v.states) ≡ false = grind (arith, nat_tests) in

@@ -1,8 +1,8 @@
 -- A put over an offered unit: where it was carried, the tables are true after the record effect and the pass.
-use Rattle.std.proofs.Common.{◌≡◌, ◌≢◌, ◌⊎◌, inl, inr, ℕ, ◌+◌, ◌-◌, ◌*◌, ◌/◌, ◌%◌, ◌^◌, ◌<◌, ◌≤◌, Bool, true, false, List, drop, length, map, if◌then◌else◌, ◌&&◌, ◌||◌, ◌==◌, nat_lt, Option, Some, None, refl, sym, ap, ap₂, ◌∙◌, subst, arith, length-set}
+use Rattle.std.proofs.Common.{◌≡◌, ◌≢◌, ◌⊎◌, inl, inr, ℕ, ◌+◌, ◌-◌, ◌*◌, ◌/◌, ◌%◌, ◌<◌, ◌≤◌, Bool, true, false, List, drop, length, if◌then◌else◌, ◌||◌, ◌==◌, Some, None, refl, sym, ap, ◌∙◌, subst, arith}
 use Rattle.std.specs.Prelude.{slice_set}
-use Rattle.std.proofs.lemmas.Bool.{cases_eq, cases_lt, cases_Bool, eq-eqb, ne_eqb, lt-ltb, and_from, false≢true, eqb-true}
-use Rattle.std.proofs.lemmas.Option.{none-some, same_Some}
+use Rattle.std.proofs.lemmas.Bool.{cases_eq, cases_lt, eq-eqb, ne_eqb, lt-ltb, and_from}
+use Rattle.std.proofs.lemmas.Option.{same_Some}
 use Rattle.std.proofs.lemmas.Nat.{div-mul-add, mod-mul-add}
 use native.Mathlib.Nat.{mul-le-mul_right, suc-mul}
 use Rattle.zero_count.specs.declared.Header.{Header}
@@ -11,33 +11,24 @@ use Rattle.cell_die.specs.Cells.{page_at, with_charged}
 use Rattle.striped.specs.Meaning.{Decoding}
 use Rattle.spare_gate.specs.Slots.{is_gate_charged, is_slot_blank, with_header, with_record, gate_cell_of}
 use Rattle.spare_gate.proofs.Blank.{header_keeps_blank, gate_keeps_blank}
-use Rattle.spare_gate.proofs.Headers.{header_long}
-use Rattle.sector_map.specs.declared.entry.Entry.{Entry}
-use Rattle.sector_map.specs.Entry.{entry_at}
-use Rattle.block_state.specs.declared.state.State.{State}
 use Rattle.block_state.specs.declared.state.State.TheVariants.{Used, Recycled, Reused}
-use Rattle.block_state.specs.State.{is_active, is_spare, InRange}
-use Rattle.block_state.specs.Book.{BookValue, state_at, live_at, with_state, HasOneSpare}
+use Rattle.block_state.specs.Book.{BookValue}
 use Rattle.reuse_pool.specs.declared.unit.ReuseUnit.{ReuseUnit}
-use Rattle.reuse_pool.specs.Offer.{IsOffer, passed}
+use Rattle.reuse_pool.specs.Offer.{passed}
 use Rattle.page_codec.specs.declared.place.Place.{Place}
 use Rattle.page_codec.specs.Geometry.{Geometry, block_of, page_count, units, unit_page, is_unit_page, spare_at}
 use Rattle.page_codec.specs.Records.{Placed, header_in, may_hold, is_copy, committed_in, live_record}
 use Rattle.page_codec.specs.Sectors.{said_by, stored}
 use Rattle.page_codec.specs.Gate.{GateWins}
 use Rattle.page_codec.specs.Promises.{HoldsRecord}
-use Rattle.page_codec.specs.Sound.{live_count}
-use Rattle.page_codec.specs.TrueBook.{BlankAbove, IsTrue, IsTrueState, IsTrueUsed, IsTrueRecycled, IsNextSeq, HasSizes, UnitSlotBlank, entry_of, live_map}
+use Rattle.page_codec.specs.TrueBook.{BlankAbove, IsTrueState, IsTrueRecycled, UnitSlotBlank}
 use Rattle.page_codec.proofs.Changes.{ungated}
-use Rattle.page_codec.proofs.PutLaws.{PutsCells, put_keeps_live, put_wins, header_after}
-use Rattle.page_codec.proofs.PutStored.{NoneReads, StoresOne, pages_read, put_keeps_stored, put_stores}
+use Rattle.page_codec.proofs.PutLaws.{PutsCells, put_keeps_live, put_wins}
+use Rattle.page_codec.proofs.PutStored.{NoneReads, StoresOne, put_keeps_stored, put_stores}
 use Rattle.page_codec.proofs.PutUnit.{blank_ungated}
-use Rattle.collector.specs.Effects.{recorded, former_in}
-use Rattle.collector.proofs.Books.{SameStates, recorded_states, valid_recorded, recorded_live, valid_state, spare_stays, state_here, state_there}
-use Rattle.collector.proofs.Room.{has_room}
 use Rattle.rssd_core.specs.Steps.{IsSized, place_in}
-use Rattle.rssd_core.proofs.BlockLaws.{BlockStays, state_stays, block_of_page, block_of_unit, unit_within}
-use Rattle.rssd_core.proofs.RecordLaws.{former_of, former_is, entry_is, live_moves, map_moves, rows_move, may_drop}
+use Rattle.rssd_core.proofs.BlockLaws.{BlockStays, block_of_unit, unit_within}
+use Rattle.rssd_core.proofs.RecordLaws.{rows_move}
 use Rattle.rssd_core.proofs.Wiping.{committed_header, live_within, read_in_block}
 
 -- A put of a record over an offered unit, in any outcome.

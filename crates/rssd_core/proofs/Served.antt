@@ -1,7 +1,6 @@
 -- The die, the scheme and the buffers agree.
 use Rattle.std.specs.Prelude.{OnOk, OnErr}
-use Rattle.std.proofs.Common.{◌≡◌, ℕ, ◌+◌, ◌*◌, ◌^◌, ◌<◌, ◌≤◌, true, List, drop, length, Option, Some, Result, Ok, Err, refl, sym, ap, ◌∙◌, subst, arith}
-use native.Mathlib.Nat.{mul-le-mul_right}
+use Rattle.std.proofs.Common.{◌≡◌, ℕ, ◌+◌, ◌*◌, ◌^◌, ◌<◌, ◌≤◌, true, List, drop, length, Option, Result, Ok, Err, refl, sym, ap, ◌∙◌, subst, arith}
 use Rattle.std.proofs.Math.Nat.{mul-le-mul}
 use Rattle.cell_die.specs.declared.shape.Shape.{Shape}
 use Rattle.cell_die.specs.Cells.{page_at, is_blank}
@@ -15,8 +14,7 @@ use Rattle.rssd_core.specs.Steps.{IsSized}
 use Rattle.rssd_core.proofs.AtHand.{PutsAtHand, at_hand}
 use Rattle.striped.specs.Meaning.{Meaning, Decodes, IsSector}
 use Rattle.sector_map.specs.declared.entry.Entry.{Entry}
-use Rattle.block_state.specs.declared.state.State.TheVariants.{Active}
-use Rattle.block_state.specs.Book.{BookValue, state_at}
+use Rattle.block_state.specs.Book.{BookValue}
 use Rattle.page_alloc.specs.CleanPage.{IsPageBranch}
 use Rattle.page_codec.specs.Geometry.{Geometry, shape_of, page_count}
 use Rattle.page_codec.specs.Sizes.{Sizes, Serves, ServesScheme}

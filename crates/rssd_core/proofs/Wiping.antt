@@ -1,14 +1,12 @@
 -- An erase of a block without live records changes no live record and no stored sector, finished or not.
-use Rattle.std.proofs.Common.{◌≡◌, ◌≢◌, ◌⊎◌, inl, inr, ℕ, ◌+◌, ◌*◌, ◌/◌, ◌^◌, ◌<◌, ◌≤◌, Bool, true, false, List, drop, length, map, ◌==◌, nat_lt, if◌then◌else◌, Option, Some, None, refl, sym, ap, ap₂, ◌∙◌, subst, arith}
-use Rattle.std.specs.Prelude.{slice_index}
+use Rattle.std.proofs.Common.{◌≡◌, ◌≢◌, ◌⊎◌, inl, inr, ℕ, ◌+◌, ◌*◌, ◌/◌, ◌<◌, Bool, true, false, List, drop, map, ◌==◌, nat_lt, if◌then◌else◌, Option, Some, None, refl, sym, ap, ◌∙◌, subst, arith}
 use Rattle.std.specs.List.{range_with_len}
-use Rattle.std.proofs.lemmas.Bool.{cases_eq, cases_lt, cases_Bool, false≢true, eq-eqb, ltb-true}
-use Rattle.std.proofs.lemmas.List.{get_or_past}
+use Rattle.std.proofs.lemmas.Bool.{cases_eq, cases_Bool, false≢true, eq-eqb, ltb-true}
 use Rattle.std.proofs.lemmas.Option.{none-some, same_Some}
 use Rattle.zero_count.specs.declared.Header.{Header}
 use Rattle.zero_count.specs.HeaderWord.{header_of}
 use Rattle.cell_die.specs.declared.shape.Shape.{Shape}
-use Rattle.cell_die.specs.Cells.{page_at, is_blank, is_charged, blank_page, IsAbove}
+use Rattle.cell_die.specs.Cells.{page_at, is_blank, is_charged, IsAbove}
 use Rattle.cell_die.specs.DieState.{DieState, IsShaped, page_of, page_bytes}
 use Rattle.cell_die.specs.Changes.{SameCells, OnlyBlock, IsErased, ErasedInPart}
 use Rattle.cell_die.specs.Pads.{NoPadCharged}
@@ -22,7 +20,7 @@ use Rattle.page_alloc.specs.CleanPage.{IsWipeBranch}
 use Rattle.page_codec.specs.TrueBook.{IsTrue}
 use Rattle.collector.specs.Store.{store, Holds}
 use Rattle.rssd_core.proofs.ClosedBlocks.{closed_not_spare, closed_within}
-use Rattle.cell_bits.proofs.Above.{keeps, above_refl}
+use Rattle.cell_bits.proofs.Above.{keeps}
 use Rattle.cell_die.proofs.CellLaws.{above_blank}
 use Rattle.spare_gate.specs.Slots.{word_at, is_gate_charged, is_seal_charged}
 use Rattle.striped.specs.Meaning.{Decoding}
@@ -38,7 +36,7 @@ use Rattle.page_codec.proofs.PutFirst.{blank_zeros}
 use Rattle.page_codec.proofs.PutCells.{byte_at}
 use Rattle.page_codec.proofs.PutUnit.{blank_ungated}
 use Rattle.page_codec.proofs.PutStored.{pages_read, said_stays}
-use Rattle.page_codec.proofs.SoundErase.{TearsBlock, tear_keeps_live, tear_keeps_sound, tear_keeps_stored, header_kept, unit_in_block, unit_page_from_slot}
+use Rattle.page_codec.proofs.SoundErase.{TearsBlock, tear_keeps_sound, tear_keeps_stored, header_kept, unit_in_block, unit_page_from_slot}
 use Rattle.rssd_core.proofs.BlankPages.{blank_slot, blank_header}
 use Rattle.rssd_core.specs.Steps.{IsSized}
 use Rattle.rssd_core.proofs.BlockLaws.{none_stands, block_of_page, page_in_block}

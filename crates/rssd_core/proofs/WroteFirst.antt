@@ -1,40 +1,30 @@
 -- A write to a clean page, from its steps to the contract: a page was got, the record put, and blocks recycled.
-use Rattle.std.proofs.Common.{◌≡◌, ◌≢◌, ◌⊎◌, inl, inr, ℕ, ◌+◌, ◌*◌, ◌^◌, ◌<◌, ◌≤◌, Bool, true, false, List, [], ◌∷◌, ◌++◌, length, Option, Some, None, refl, sym, ap, ap₂, ◌∙◌, subst, arith}
+use Rattle.std.proofs.Common.{◌≡◌, ◌⊎◌, inl, inr, ℕ, ◌+◌, ◌*◌, ◌^◌, ◌<◌, false, List, [], ◌∷◌, ◌++◌, Option, Some, None, refl, sym, ap, ◌∙◌, subst, arith}
 use Rattle.std.specs.Prelude.{slice_set}
-use Rattle.std.specs.List.{count_by, sum_by}
+use Rattle.std.specs.List.{count_by}
 use Rattle.std.proofs.lemmas.Bool.{cases_lt}
 use Rattle.std.proofs.lemmas.List.Sums.{sum_by-append}
 use Rattle.zero_count.specs.declared.Header.{Header}
 use Rattle.cell_die.specs.DieState.{DieState}
 use Rattle.cell_die.specs.Counts.{count_sum, raised, Rose, Stayed}
-use Rattle.cell_die.specs.Calls.{Passed, PassedWithin}
-use Rattle.striped.specs.Meaning.{Meaning}
-use Rattle.block_state.specs.declared.state.State.{State}
-use Rattle.block_state.specs.declared.state.State.TheVariants.{Active}
 use Rattle.block_state.specs.State.{is_active}
-use Rattle.block_state.specs.Book.{BookValue, state_at, IsValid, HasOneSpare}
+use Rattle.block_state.specs.Book.{BookValue}
 use Rattle.page_alloc.specs.declared.next_page.NextPage.TheVariants.{Page}
-use Rattle.page_alloc.specs.CleanPage.{IsPageBranch}
 use Rattle.reuse_pool.specs.Recycling.{Recycles}
-use Rattle.page_codec.specs.declared.place.Place.{Place}
 use Rattle.page_codec.specs.Geometry.{Geometry}
 use Rattle.page_codec.specs.Puts.{first_slot}
-use Rattle.page_codec.specs.Records.{header_in, live_record}
+use Rattle.page_codec.specs.Records.{header_in}
 use Rattle.page_codec.specs.Sound.{IsSound}
-use Rattle.page_codec.specs.TrueBook.{IsTrueBook, live_map}
-use Rattle.mount_scan.proofs.TrueRun.{true_book_by_run}
 use Rattle.collector.specs.Store.{Store, store, IsTrueStore}
 use Rattle.collector.specs.Store as stores
-use Rattle.collector.specs.Effects as effects
 use Rattle.rssd_core.specs.declared.device.Placed.TheVariants.{First, Declined}
 use Rattle.rssd_core.specs.Rules.{first_block, next_page, offer_of}
 use Rattle.rssd_core.specs.BookChanges.{Change, Fills, Offers, Leads, EachOnce, passes, filled_in, is_take, is_wipe, is_erase, is_copy, is_seal, is_pass}
-use Rattle.rssd_core.specs.Calls.{calls_before, clean_calls, collection_reads, named_page}
-use Rattle.rssd_core.specs.DeviceValue.{Numbers, DeviceView, DeviceValue, rows_of}
-use Rattle.rssd_core.specs.Failures.{TellsPower, CutCame}
+use Rattle.rssd_core.specs.Calls.{calls_before, clean_calls, collection_reads}
+use Rattle.rssd_core.specs.DeviceValue.{Numbers, DeviceView, rows_of}
 use Rattle.rssd_core.specs.Moves.{MovesBook, MovesSeq, WhereCut, sealed_records, ChangesRose}
-use Rattle.rssd_core.specs.Outcomes.{Holds, Wrote, WriteMay, WriteAtCut, RisesSealed, CountsOne}
-use Rattle.rssd_core.specs.Steps.{IsSized, Opened, OpenedAfter, PutNext, former_block}
+use Rattle.rssd_core.specs.Outcomes.{Wrote, WriteAtCut, RisesSealed}
+use Rattle.rssd_core.specs.Steps.{Opened, OpenedAfter, PutNext, former_block}
 use Rattle.rssd_core.specs.Within.{Went, IsCollect}
 use Rattle.rssd_core.specs.Writes.{OnCleanPage, OfferDeclines}
 use Rattle.rssd_core.proofs.Chained.{leads_append, leads_one, went_trans, no_cut_came, count_by-append}

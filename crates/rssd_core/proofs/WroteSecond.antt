@@ -1,31 +1,23 @@
 -- A write over the offered unit, from its steps to the contract: the record was put, the unit passed, and blocks recycled.
-use Rattle.std.proofs.Common.{◌≡◌, ◌≢◌, ◌⊎◌, inl, inr, ℕ, ◌+◌, ◌*◌, ◌^◌, ◌<◌, ◌≤◌, Bool, true, false, IsTrue as Passing, List, [], ◌∷◌, ◌++◌, length, Option, Some, None, refl, sym, ap, ap₂, ◌∙◌, subst, arith}
+use Rattle.std.proofs.Common.{◌≡◌, ℕ, ◌+◌, ◌^◌, ◌<◌, false, IsTrue as Passing, List, [], ◌∷◌, length, Option, refl, sym, ap, ◌∙◌, subst, arith}
 use Rattle.std.proofs.lemmas.Option.{same_Some}
-use Rattle.zero_count.specs.declared.Header.{Header}
-use Rattle.cell_die.specs.Cells.{IsAbove}
-use Rattle.cell_die.specs.DieState.{DieState}
 use Rattle.cell_die.specs.Counts.{count_sum}
-use Rattle.cell_die.specs.Calls.{Passed}
 use Rattle.cell_die.proofs.Sequences.{passed_within}
 use Rattle.block_state.specs.declared.state.State.{State}
-use Rattle.block_state.specs.declared.state.State.TheVariants.{Clean}
 use Rattle.block_state.specs.Book.{BookValue, state_at}
 use Rattle.reuse_pool.specs.declared.unit.ReuseUnit.{ReuseUnit}
 use Rattle.reuse_pool.specs.Offer.{IsOffer, is_recycled}
 use Rattle.reuse_pool.specs.Recycling.{Recycles}
-use Rattle.page_codec.specs.Records.{live_record}
 use Rattle.collector.specs.Store.{Store, IsTrueStore}
 use Rattle.collector.specs.Store as stores
 use Rattle.collector.specs.Effects.{recorded}
 use Rattle.collector.proofs.Books.{SameStates, recorded_states}
 use Rattle.rssd_core.specs.declared.device.Placed.TheVariants.{Second}
-use Rattle.rssd_core.specs.Rules.{offer_of}
-use Rattle.rssd_core.specs.BookChanges.{Change, Rewrites, Passes, Offers, Leads}
+use Rattle.rssd_core.specs.BookChanges.{Rewrites, Passes, Offers}
 use Rattle.rssd_core.specs.DeviceValue.{Numbers}
 use Rattle.rssd_core.specs.Outcomes.{Wrote}
-use Rattle.rssd_core.specs.Steps.{PutOver, former_block, passing, bytes_in, place_in}
-use Rattle.rssd_core.specs.Within.{Went}
-use Rattle.rssd_core.specs.Writes.{OfferCarries, OverUnit}
+use Rattle.rssd_core.specs.Steps.{PutOver, former_block, bytes_in}
+use Rattle.rssd_core.specs.Writes.{OverUnit}
 use Rattle.rssd_core.proofs.Chained.{leads_append, leads_one, went_passed, no_cut_came}
 use Rattle.rssd_core.proofs.Rules.{offer_is}
 use Rattle.rssd_core.proofs.WroteFirst.{view_at, moves_seq}

@@ -23,6 +23,8 @@ pub record MovesFailed (g : Geometry) (d : Decoding) (n k : ℕ) (old new : Stor
   pub mid : Store
   pub run : MovesRun g d k old mid
   pub some_left : k < n
+  pub one_more : NoMoveLeft mid.book → ⊥
+  pub fresh : mid.seq < 2 ^ 62
   pub failed : Failed mid
   pub holds : Holds g mid new
 

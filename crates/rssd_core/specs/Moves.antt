@@ -1,19 +1,17 @@
 -- How the book, the next seq and the tally of moved records move in one call.
-use Rattle.std.specs.Prelude.{◌≡◌, ◌≢◌, ◌⊎◌, ℕ, ◌+◌, ◌*◌, ◌^◌, ◌<◌, ◌≤◌, List, length, slice_index, if◌then◌else◌, nat_lt, Some}
-use Rattle.std.specs.List.{Contains, sum_by}
+use Rattle.std.specs.Prelude.{◌≡◌, ◌⊎◌, ℕ, ◌+◌, ◌^◌, ◌<◌, ◌≤◌, List, if◌then◌else◌, nat_lt, Some}
+use Rattle.std.specs.List.{sum_by}
 use Rattle.cell_die.specs.Counts.{count_sum, Rose}
 use Rattle.zero_count.specs.declared.Header.{Header}
-use Rattle.block_state.specs.declared.state.State.TheVariants.{Active}
-use Rattle.block_state.specs.Book.{BookValue, live_at, state_at}
+use Rattle.block_state.specs.Book.{BookValue, live_at}
 use Rattle.page_alloc.specs.declared.next_page.NextPage.TheVariants.{Collect}
 use Rattle.page_codec.specs.declared.place.Place.{Place}
-use Rattle.page_codec.specs.Puts.{first_slot}
-use Rattle.page_codec.specs.Records.{header_in, live_record}
+use Rattle.page_codec.specs.Records.{header_in}
 use Rattle.page_codec.specs.Sound.{IsSound}
 use Rattle.rssd_core.specs.Rules.{next_page}
 use Rattle.rssd_core.specs.BookChanges.{Change, Seals, Leads}
 use Rattle.rssd_core.specs.Calls.{collection_calls}
-use Rattle.rssd_core.specs.DeviceValue.{Numbers, DeviceView, LiveAt}
+use Rattle.rssd_core.specs.DeviceValue.{Numbers, DeviceView}
 use Rattle.rssd_core.specs.Failures.{CutCame, TellsPower, cut_of}
 
 -- the part of changes rose: exactly, or as far as a count that stands at its greatest number tells
@@ -58,14 +56,3 @@ pub record MovesSeq (d : Numbers) (old new : DeviceView) : Type 0 where
 abbrev pub CollectAtCut : BookValue → ℕ → ℕ → Type 0
 CollectAtCut v c rise = (victim spare : ℕ) → next_page v ≡ Collect victim spare
     → rise ≡ (if nat_lt (collection_calls v (next_page v)) c then live_at v victim else 0)
-
--- The live records of these sectors, and of no others, moved to slot 0 of the Active block's pages from `fill` on, in order.
-pub record MovesInOrder (d : Numbers) (old new : DeviceView) (block fill : ℕ) (sectors : List ℕ) : Type 0 where
-  pub distinct : (i j : ℕ) → i < j → j < length sectors → slice_index sectors i ≢ slice_index sectors j
-  pub moved : (i : ℕ) → i < length sectors → LiveAt d new (slice_index sectors i) (first_slot (block * d.geometry.pages + fill + i))
-  pub others : (sector : ℕ) → (Contains sectors sector → ⊥) → live_record d.geometry new.die.cells sector ≡ live_record d.geometry old.die.cells sector
-
--- an idle call that answers k moves the live records of exactly k sectors
-abbrev pub IdleMoves : Numbers → DeviceView → DeviceView → ℕ → Type 0
-IdleMoves d old new k =
-    (block fill : ℕ) × (sectors : List ℕ) × (length sectors ≡ k) × (0 < k → state_at old.book block ≡ Active fill) × MovesInOrder d old new block fill sectors

@@ -4,20 +4,19 @@ use Rattle.cell_die.specs.Counts.{count_sum}
 use Rattle.cell_die.specs.Changes.{SameCells}
 use Rattle.cell_die.specs.Calls.{Kept, ChangeFailed, ReadFailed, PassedWithin}
 use Rattle.cell_die.specs.Pads.{NoPadCharged}
-use Rattle.block_state.specs.State.{is_active}
 use Rattle.block_state.specs.Book.{BookValue}
-use Rattle.block_state.specs.Victim.{NoneFits}
 use Rattle.page_codec.specs.Geometry.{shape_of}
 use Rattle.page_codec.specs.Sound.{IsSound}
 use Rattle.page_codec.specs.TrueBook.{IsTrueBook, live_map}
 use Rattle.rssd_core.specs.declared.device.Placed.{Placed}
 use Rattle.rssd_core.specs.declared.device.Placed.TheVariants.{First, Second, Declined}
-use Rattle.rssd_core.specs.Rules.{next_page, first_block, room_in}
+use Rattle.rssd_core.specs.Rules.{next_page}
 use Rattle.rssd_core.specs.BookChanges.{Change, EachOnce, passes, is_idle}
 use Rattle.rssd_core.specs.Calls.{move_reads}
 use Rattle.rssd_core.specs.DeviceValue.{Numbers, DeviceView, DeviceValue, rows_of}
-use Rattle.rssd_core.specs.Moves.{MovesBook, MovesSeq, WhereCut, CollectAtCut, IdleMoves, sealed_records}
+use Rattle.rssd_core.specs.Moves.{MovesBook, MovesSeq, WhereCut, CollectAtCut, sealed_records}
 use Rattle.rssd_core.specs.Writes.{OfferCarries, WentTo}
+use Rattle.rssd_core.specs.IdleRule.{IdleMoves, IdleUnfinished, NoMoveLeft, moment_of}
 use Rattle.rssd_core.specs.Within.{Went, WithinWrite, WithinTrim, WithinIdle, Finished, IsCollect, write_calls, write_reads, WriteBounded, trim_calls, trim_reads}
 
 -- while no change call failed the book is true to the cells
@@ -156,14 +155,10 @@ RisesFinished old new changes rise = Finished old new rise
 abbrev pub IdleAtCut : ℕ → ℕ → Type 0
 IdleAtCut c rise = (2 * rise < c) × (c ≤ 2 * rise + 2)
 
--- no idle victim fits, or the numbers are spent
-abbrev pub NoMoveLeft : DeviceView → Type 0
-NoMoveLeft view = NoneFits view.book 1 (room_in view.book (first_block is_active view.book)) ⊎ (2 ^ 62 ≤ view.seq)
-
 pub record Idled (d : Numbers) (n k : ℕ) (old new : DeviceValue) : Type 0 where
   pub rows : rows_of d new.view ≡ rows_of d old.view
   pub at_most : k ≤ n
-  pub all : k < n → NoMoveLeft new.view
+  pub all : k < n → NoMoveLeft (moment_of new.view)
   pub moves : IdleMoves d old.view new.view k
   pub calls : PassedWithin (2 * k) (k * move_reads d.geometry) old.view.die new.view.die
   pub book : MovesBook d IdleMay (RisesTo k) (WhereCut IdleAtCut old.view new.view) old.view new.view
@@ -173,6 +168,7 @@ pub record Idled (d : Numbers) (n k : ℕ) (old new : DeviceValue) : Type 0 wher
 
 pub record IdleFault (d : Numbers) (n : ℕ) (old new : DeviceValue) : Type 0 where
   pub fault : Faulted d (WithinIdle d n old.view new.view) (rows_of d old.view) old new
+  pub moves : IdleUnfinished d n old.view new.view
   pub book : MovesBook d IdleMay (RisesFinished old.view new.view) (WhereCut IdleAtCut old.view new.view) old.view new.view
   pub seq : MovesSeq d old.view new.view
   pub counts : SameCounts old.view new.view

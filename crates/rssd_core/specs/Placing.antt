@@ -3,7 +3,6 @@ use Rattle.std.specs.Prelude.{◌≡◌, ◌⊎◌, ℕ, List, length, Result, O
 use Rattle.zero_count.specs.declared.Header.{Header}
 use Rattle.cell_die.specs.Counts.{count_sum}
 use Rattle.striped.specs.Meaning.{Decoding}
-use Rattle.block_state.specs.Book.{BookValue}
 use Rattle.reuse_pool.specs.declared.unit.ReuseUnit.{ReuseUnit}
 use Rattle.reuse_pool.specs.Offer.{IsOffer, NoneRecycledBelow}
 use Rattle.page_codec.specs.Geometry.{Geometry}

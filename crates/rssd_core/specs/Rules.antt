@@ -33,6 +33,10 @@ abbrev pub room_in : BookValue → Option ℕ → ℕ
 room_in v None = 0
 room_in v (Some block) = v.pages - fill_of (state_at v block)
 
+-- the room for idle moves
+abbrev pub room_left : BookValue → ℕ
+room_left v = room_in v (first_block is_active v)
+
 -- a victim without a live record is wiped, and any other is collected into the Spare; a true book has both blocks here
 abbrev pub from_victim : BookValue → Option ℕ → Option ℕ → NextPage
 from_victim v (Some victim) (Some spare) = if live_at v victim == 0 then Wipe victim else Collect victim spare

@@ -113,7 +113,8 @@ pub trait Device<D: Die + Drop, C: Scheme + Drop>: Drop {
         ensures fault { IsErrOf result FtlError.DieFault → TrimFault (device self.old).numbers sector (device self.old) (device self.new) }
         ensures refused { OnErr result (result ≢ Err FtlError.DieFault → device self.new ≡ device self.old) };
 
-    /// Moves records to the Active block, at most `n`. The answer is how many, below `n` only where no further one may be moved.
+    /// Moves records to the Active block, at most `n`, each the first live one of the idle victim. The answer is how many, below
+    /// `n` only where no further one may be moved. After a `DieFault` the finished moves stand.
     fn idle(&mut self, n: u32) -> Result<u32, FtlError>
         ensures holds { Holds (device self.old).numbers (device self.old) (device self.new) }
         ensures stopped { result ≡ Err FtlError.Stopped ↔ (device self.old).stopped ≡ true }

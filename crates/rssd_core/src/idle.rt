@@ -72,7 +72,8 @@ pub(crate) fn move_records<D: Die, C: Scheme>(
 }
 
 impl<D: Die + Drop, C: Scheme + Drop> Ftl<D, C> {
-    /// Moves records to the Active block, at most `n`. The answer is how many, below `n` only where no further one may be moved.
+    /// Moves records to the Active block, at most `n`, each the first live one of the idle victim. The answer is how many, below
+    /// `n` only where no further one may be moved. After a `DieFault` the finished moves stand.
     pub fn idle(&mut self, n: u32) -> Result<u32, FtlError>
         ensures holds { Holds (device_of D.state C.meaning self.old).numbers (device_of D.state C.meaning self.old) (device_of D.state C.meaning self.new) }
         ensures stopped { result ≡ Err FtlError.Stopped ↔ (device_of D.state C.meaning self.old).stopped ≡ true }

@@ -1,14 +1,13 @@
 -- The put is one on the Active block's next page, and its outcomes follow from the gate.
-use Rattle.std.proofs.Common.{rules, ◌≡◌, ◌+◌, ◌^◌, ◌<◌, length, ℕ, true, List, Option, sym, subst, refl, Some, ap, ◌∙◌, Err, Ok, ap₂}
-use Rattle.std.specs.Prelude.{slice_set, OnErr, OnOk}
-use Rattle.std.proofs.lemmas.Bool.{false≢true}
+use Rattle.std.proofs.Common.{◌+◌, length, List, Option, sym, subst, refl, Some}
+use Rattle.std.specs.Prelude.{slice_set}
 use Rattle.sector_map.specs.declared.entry.Entry.{Entry}
 use Rattle.sector_map.specs.declared.entry.Entry.TheVariants.{Held}
 use Rattle.block_state.specs.Book.{BookValue}
 use Rattle.collector.specs.Store.{geometry_of, store}
 use Rattle.rssd_core.specs.Steps.{PutNext}
-use Rattle.rssd_core.proofs.AtHand.{PutsAtHand, at_hand_holds, at_hand_failed, effect_block, effect_within, effect_room, effect_drops, put_next}
-use Rattle.rssd_core.proofs.Served.{shape_is, at_hand_page, sector_at_hand, gate_here, err_any}
+use Rattle.rssd_core.proofs.AtHand.{at_hand_holds, at_hand_failed, effect_within, effect_room, effect_drops, put_next}
+use Rattle.rssd_core.proofs.Served.{at_hand_page, sector_at_hand, gate_here, err_any}
 use Rattle.rssd_core.proofs.at_hand.put_sector.Goals as goal
 
 pub put_first-requires-clause-page : goal.put_first-requires-clause-page

@@ -1,7 +1,7 @@
 -- Each branch gets its page, and a failed erase none.
-use Rattle.std.proofs.Common.{◌≡◌, ℕ, ◌+◌, ◌*◌, ◌<◌, length, refl, sym, ap, ◌∙◌, subst, arith}
+use Rattle.std.proofs.Common.{length, refl, sym, subst, arith}
 use Rattle.block_state.specs.Book.{BookValue}
-use Rattle.collector.specs.Store.{geometry_of, store, Holds}
+use Rattle.collector.specs.Store.{geometry_of, store}
 use Rattle.rssd_core.specs.Placing.{CameToHand}
 use Rattle.rssd_core.proofs.OpenedLaws.{opened_page, opened_take, opened_wipe, wipe_failed, wipe_erases}
 use Rattle.rssd_core.proofs.Served.{shape_is}

@@ -21,7 +21,7 @@ returns-in-Err-clause-ends g c =
     failed_move (geometry_of (g.D.Die.state c.args.die.now).shape (g.C.Scheme.meaning c.args.scheme.now) (length c.args.map.now)) (geometry_of (g.D.Die.state c.loop-count.die).shape (g.C.Scheme.meaning c.loop-count.scheme) (length c.loop-count.map)) (g.C.Scheme.meaning c.args.scheme.now).decoding (g.C.Scheme.meaning c.loop-count.scheme).decoding
     (same_numbers (g.D.Die.state c.loop-count.die).shape (g.D.Die.state c.args.die.now).shape (g.C.Scheme.meaning c.loop-count.scheme) (g.C.Scheme.meaning c.args.scheme.now) (length c.loop-count.map) (length c.args.map.now) c.loop-count.invariant.same_shape c.loop-count.invariant.same_scheme c.loop-count.invariant.same_sectors)
     (ap (λ (m : Meaning). m.decoding) c.loop-count.invariant.same_scheme) (store (g.D.Die.state c.args.die.now) c.args.map.now c.args.book.now c.args.seq.now) (store (g.D.Die.state c.loop-count.die) c.loop-count.map c.loop-count.book c.loop-count.seq) (store (g.D.Die.state c.move_one.new.die) c.move_one.new.map c.move_one.new.book c.move_one.new.seq)
-    c.args.n c.loop-count.count c.in-Err.fault (omega arith) c.loop-count.invariant.run c.in-Err.ensures.holds (λ e. c.in-Err.ensures.read_failed (ap Err e)) (λ e. c.in-Err.ensures.change_failed (ap Err e))
+    c.args.n c.loop-count.count c.in-Err.fault (omega arith) c.loop-count.invariant.run c.in-Err.ensures.holds (λ none. let told = c.in-Err.ensures.none_alone none in cc) (omega arith) (λ e. c.in-Err.ensures.read_failed (ap Err e)) (λ e. c.in-Err.ensures.change_failed (ap Err e))
 
 pub loop-count-preserved : goal.loop-count-preserved
 loop-count-preserved g c =

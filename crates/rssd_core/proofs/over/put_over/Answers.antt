@@ -1,5 +1,5 @@
 -- The put is one over the offered unit, and its outcomes follow from the gate.
-use Rattle.std.proofs.Common.{◌≡◌, ◌+◌, ◌*◌, ◌^◌, ◌<◌, length, ℕ, true, List, Option, Some, Ok, Err, sym, subst, refl, ap, ap₂, ◌∙◌}
+use Rattle.std.proofs.Common.{◌+◌, ◌*◌, length, ℕ, List, Option, Some, Ok, Err, sym, subst, refl, ap₂, ◌∙◌}
 use Rattle.std.specs.Prelude.{slice_set}
 use Rattle.wom_code.specs.declared.code.Carry.{Carry}
 use Rattle.page_codec.specs.declared.fault.PutFault.{PutFault}
@@ -10,7 +10,7 @@ use Rattle.block_state.specs.Book.{BookValue}
 use Rattle.reuse_pool.specs.Offer.{IsOffer}
 use Rattle.collector.specs.Store.{geometry_of, store}
 use Rattle.rssd_core.specs.Steps.{PutOver, OverDeclined, passing}
-use Rattle.rssd_core.proofs.OverLaws.{IsOver, over_holds, over_failed, effect_within, effect_room, effect_drops, offer_after, put_over_ends, over_declined}
+use Rattle.rssd_core.proofs.OverLaws.{over_holds, over_failed, effect_within, effect_room, effect_drops, offer_after, put_over_ends, over_declined}
 use Rattle.rssd_core.proofs.over.put_over.Goals as goal
 
 pub record_effect-requires-clause-block : goal.record_effect-requires-clause-block

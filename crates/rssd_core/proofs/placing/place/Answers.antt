@@ -1,5 +1,5 @@
 -- The unit that is offered decides.
-use Rattle.std.proofs.Common.{◌≡◌, ℕ, List, Ok, Err, length, refl, sym, ap, ◌∙◌, subst}
+use Rattle.std.proofs.Common.{Ok, Err, length, subst}
 use Rattle.wom_code.specs.declared.code.Carry.{Carry}
 use Rattle.page_codec.specs.Geometry.{Geometry}
 use Rattle.collector.specs.Store.{geometry_of, store, Holds}

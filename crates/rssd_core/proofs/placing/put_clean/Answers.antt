@@ -1,7 +1,6 @@
 -- A page came to hand, and the put on it follows.
-use Rattle.std.proofs.Common.{◌≡◌, ℕ, inr, length, refl, sym, ap, ◌∙◌, subst}
+use Rattle.std.proofs.Common.{inr, length, subst}
 use Rattle.page_codec.specs.Geometry.{Geometry}
-use Rattle.striped.specs.Meaning.{Meaning}
 use Rattle.collector.specs.Store.{geometry_of, store, Holds}
 use Rattle.rssd_core.specs.Placing.{header_at}
 use Rattle.rssd_core.specs.Steps.{PutNextFailed}

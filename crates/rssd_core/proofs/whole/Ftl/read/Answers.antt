@@ -1,8 +1,7 @@
 -- The map names the live record, so its entry gives the stored row.
-use Rattle.std.proofs.Common.{◌≡◌, ℕ, ◌<◌, false, List, [], length, Option, refl, sym, ap, ◌∙◌, subst, arith}
+use Rattle.std.proofs.Common.{◌≡◌, ℕ, ◌<◌, [], length, sym, ap, ◌∙◌, subst, arith}
 use Rattle.std.specs.Prelude.{slice_index_or}
 use Rattle.cell_die.specs.Calls.{Passed, ReadFailed}
-use Rattle.sector_map.specs.declared.entry.Entry.{Entry}
 use Rattle.rssd_core.specs.DeviceValue.{rows_of}
 use Rattle.rssd_core.specs.EntryRow.{entry_row, entry_reads, HasPages}
 use Rattle.rssd_core.specs.Parts.{device_of}

@@ -1,15 +1,14 @@
 -- Each outcome of the put is one of the contract's.
-use Rattle.std.proofs.Common.{rules, ◌≡◌, ℕ, ◌<◌, ◌^◌, true, false, List, Ok, Err, length, refl, sym, ap, ◌∙◌, subst, arith}
+use Rattle.std.proofs.Common.{rules, true, false, Err, length, refl, sym, subst, arith}
 use Rattle.page_codec.specs.declared.fault.PutFault.{PutFault}
 use Rattle.collector.specs.Store.{geometry_of, store}
-use Rattle.rssd_core.specs.DeviceValue.{Numbers, DeviceValue}
 use Rattle.std.proofs.lemmas.Bool.{false≢true}
 use Rattle.cell_die.specs.Counts.{count_sum}
 use Rattle.rssd_core.specs.Outcomes.{Holds, Wrote, WriteFault, firsts, seconds, declines}
 use Rattle.rssd_core.specs.Parts.{device_of}
 use Rattle.rssd_core.specs.Placing.{PlaceEnds}
 use Rattle.rssd_core.proofs.KeptLaws.{numbers_at, numbers_same, kept_after, recycled_book, device_holds, placed_true, unread_true, wrote_so, fault_so, views_same}
-use Rattle.rssd_core.proofs.PlacedLaws.{Tallies, written, unread, unchanged}
+use Rattle.rssd_core.proofs.PlacedLaws.{written, unread, unchanged}
 use Rattle.rssd_core.proofs.WroteFirst.{view_at}
 use Rattle.rssd_core.proofs.whole.Ftl.write.Goals as goal
 
