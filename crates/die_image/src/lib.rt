@@ -15,7 +15,7 @@ pub use error::ImageError;
 pub use head::{ImageHead, within_limits};
 pub use reader::ImageReader;
 pub use scheme::SchemeName;
-pub use writing::encode;
+pub use writing::{encode, encode_head};
 
 /// No memory was left.
 pub type OutOfMemory = std::alloc::AllocError;
