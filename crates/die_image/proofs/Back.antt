@@ -123,11 +123,11 @@ good_found true x y e = (refl, ok_is x y e)
 good_found false x y e = absurd cc
 
 -- the bytes begin with this head
-record IsHeadOf (is_old : Bool) (head : ImageHead) (bytes : List ℕ) : Type 0 where
+pub record IsHeadOf (is_old : Bool) (head : ImageHead) (bytes : List ℕ) : Type 0 where
   pub within : is_within_limits head ≡ true
   pub long : head_length is_old ≤ length bytes
   pub slots : has_slots is_old bytes head ≡ true
-  pub back : first_bytes is_old head ++ drop 28 bytes ≡ bytes
+  pub back : IsBytes bytes → first_bytes is_old head ++ drop 28 bytes ≡ bytes
 
 back_with : (is_old : Bool) (bytes : List ℕ) (scheme : SchemeName) → IsBytes bytes → 28 ≤ length bytes → has_magic bytes ≡ true → half_at 8 bytes ≡ version_number is_old →
     (row_of scheme).number ≡ half_at 10 bytes → first_bytes is_old (head_with bytes scheme) ++ drop 28 bytes ≡ bytes
@@ -142,9 +142,9 @@ back_with is_old bytes scheme fits long magic version number =
     let f = word_back 24 bytes (omega arith) fits in
     (λ i. joined (m i) (a i) (b i) (c i) (d i) (e i) (f i) (drop 28 bytes)) ∙ pieces bytes
 
-head_found : (is_old : Bool) (bytes : List ℕ) (head : ImageHead) → IsBytes bytes → head_read is_old bytes ≡ Ok head → IsHeadOf is_old head bytes
+pub head_found : (is_old : Bool) (bytes : List ℕ) (head : ImageHead) → head_read is_old bytes ≡ Ok head → IsHeadOf is_old head bytes
 unfolding head_read
-head_found is_old bytes head fits e =
+head_found is_old bytes head e =
     let last : Result ImageHead ImageError = head_of_scheme is_old bytes (scheme_of_number (half_at 10 bytes)) in
     let is_version : Bool = half_at 8 bytes == version_number is_old in
     let g1 = guard (nat_lt (length bytes) (head_length is_old)) errors.Short (cond (not (has_magic bytes)) (Err errors.Magic) (cond (not is_version) (Err errors.Version) last)) head e in
@@ -162,7 +162,7 @@ head_found is_old bytes head fits e =
       within = both.1;
       long = long;
       slots = both.0;
-      back = back_with is_old bytes s.0 fits (omega arith) magic version (number_of_scheme (half_at 10 bytes) s.0 s.1);
+      back = λ fits. back_with is_old bytes s.0 fits (omega arith) magic version (number_of_scheme (half_at 10 bytes) s.0 s.1);
     })
 
 cells_found : (cells : List ℕ) (read : Result ImageHead ImageError) (x : ImageHead × List ℕ) → cells_after cells read ≡ Ok x → (head : ImageHead) × (read ≡ Ok head) × (cells_read head cells ≡ Ok x)
@@ -170,17 +170,17 @@ cells_found cells (Err why) x e = absurd cc
 cells_found cells (Ok head) x e = (head, refl, e)
 
 -- the bytes are this head and these cells
-record IsRead (is_old : Bool) (bytes : List ℕ) (head : ImageHead) (cells : List ℕ) : Type 0 where
+pub record IsRead (is_old : Bool) (bytes : List ℕ) (head : ImageHead) (cells : List ℕ) : Type 0 where
   pub head_of : IsHeadOf is_old head bytes
   pub are : AreCells head cells
   pub rest : drop (head_length is_old) bytes ≡ cells
 
-read_found : (is_old : Bool) (bytes : List ℕ) (head : ImageHead) (cells : List ℕ) → IsBytes bytes → image_read is_old bytes ≡ Ok (head, cells) → IsRead is_old bytes head cells
+pub read_found : (is_old : Bool) (bytes : List ℕ) (head : ImageHead) (cells : List ℕ) → image_read is_old bytes ≡ Ok (head, cells) → IsRead is_old bytes head cells
 unfolding image_read
-read_found is_old bytes head cells fits e =
+read_found is_old bytes head cells e =
     let rest : List ℕ = drop (head_length is_old) bytes in
     let f = cells_found rest (head_read is_old bytes) (head, cells) e in
-    let h = head_found is_old bytes f.0 fits f.1 in
+    let h = head_found is_old bytes f.0 f.1 in
     let last : Result (ImageHead × List ℕ) ImageError = cond (is_pad_charged (shape_of f.0) rest) (Err errors.PadCells) (Ok (f.0, rest)) in
     let g1 = guard (nat_lt (length rest) (die_bytes f.0)) errors.Short (cond (nat_lt (die_bytes f.0) (length rest)) (Err errors.Long) last) (head, cells) f.2 in
     let g2 = guard (nat_lt (die_bytes f.0) (length rest)) errors.Long last (head, cells) g1.1 in
@@ -192,17 +192,17 @@ read_found is_old bytes head cells fits e =
 
 pub image_found : (bytes : List ℕ) (head : ImageHead) (cells : List ℕ) → IsBytes bytes → image_read false bytes ≡ Ok (head, cells) → AreCells head cells × (bytes ≡ image head cells)
 image_found bytes head cells fits e =
-    let r = read_found false bytes head cells fits e in
+    let r = read_found false bytes head cells e in
     let long : 32 ≤ length bytes = r.head_of.long in
     let slots : word_at 28 bytes ≡ (row_of head.scheme).generations = eqb-true (word_at 28 bytes) (row_of head.scheme).generations r.head_of.slots in
     let field : word (row_of head.scheme).generations ≡ take 4 (drop 28 bytes) = ap word (sym slots) ∙ word_back 28 bytes (omega arith) fits in
     let behind : word (row_of head.scheme).generations ++ cells ≡ drop 28 bytes =
     (λ i. field i ++ sym r.rest i) ∙ ap (λ (more : List ℕ). take 4 (drop 28 bytes) ++ more) (sym (drop-drop 4 28 bytes)) ∙ take-append-drop 4 (drop 28 bytes) in
-    (r.are, sym (image-first_bytes head cells ∙ ap (λ (more : List ℕ). first_bytes false head ++ more) behind ∙ r.head_of.back))
+    (r.are, sym (image-first_bytes head cells ∙ ap (λ (more : List ℕ). first_bytes false head ++ more) behind ∙ r.head_of.back fits))
 
 pub old_image_found : (bytes : List ℕ) (head : ImageHead) (cells : List ℕ) → IsBytes bytes → image_read true bytes ≡ Ok (head, cells) → AreOldCells head cells × (bytes ≡ old_image head cells)
 unfolding old_image
 old_image_found bytes head cells fits e =
-    let r = read_found true bytes head cells fits e in
+    let r = read_found true bytes head cells e in
     let two : (row_of head.scheme).generations ≡ 2 = eqb-true (row_of head.scheme).generations 2 r.head_of.slots in
-    ((r.are, two), sym (ap (λ (more : List ℕ). first_bytes true head ++ more) (sym r.rest) ∙ r.head_of.back))
+    ((r.are, two), sym (ap (λ (more : List ℕ). first_bytes true head ++ more) (sym r.rest) ∙ r.head_of.back fits))

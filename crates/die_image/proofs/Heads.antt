@@ -70,7 +70,7 @@ in_parts is_old head cells short none =
       | inr le ↦ rw (head_front is_old head cells le, drop_at head cells (head_length is_old) (omega arith)) refl
     ]
 
-too_long : (head : ImageHead) (cells : List ℕ) → die_bytes head < length cells → cells_read head cells ≡ Err errors.Long
+pub too_long : (head : ImageHead) (cells : List ℕ) → die_bytes head < length cells → cells_read head cells ≡ Err errors.Long
 too_long head cells lt = rw (le-ltb (length cells) (die_bytes head) (omega arith), lt-ltb (die_bytes head) (length cells) lt) refl
 
 long_or_same : (head : ImageHead) (cells : List ℕ) → cells_read head cells ≡ cells_read head (take (die_bytes head + 1 - 0) cells)

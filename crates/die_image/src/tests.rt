@@ -76,6 +76,18 @@ fn an_old_image_is_written_in_the_new_version(rt: HostRuntime) -> Result<(), Fai
 }
 
 #[test]
+fn a_head_has_32_bytes_before_the_cells(rt: HostRuntime) {
+    let head = ImageHead {
+        scheme: SchemeName::Rs16,
+        blocks: 2,
+        pages: 2,
+        sectors: 1,
+        reuse_max: 0,
+    };
+    assert_eq!(rt; encode_head(&head), HEAD);
+}
+
+#[test]
 fn images_are_read_byte_by_byte(rt: HostRuntime) -> Result<(), Fail> {
     // rs16, flip16 and ham16, each with 2 blocks of 2 pages.
     for (scheme, slots, bytes) in [(2, 2, 256), (6, 2, 232), (8, 3, 376)] {
