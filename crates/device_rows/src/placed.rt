@@ -1,6 +1,6 @@
 //! Where the worked rows put their writes: each answer, and then the sectors, the tallies and the die. The rows have dies of four
-//! blocks of two pages, and the one of a thousand writes a die of three. The first bytes of a page are the code words of the sectors
-//! written there, by the tables of two bits in three cells and of three in seven.
+//! blocks of two pages, and the one of a thousand writes a die of three. The first bytes of a page are what the codes make
+//! of the sectors written there, worked out by their tables.
 
 use crate::schemes::{cosets, pairs, plains, sevens};
 use crate::start::started;
