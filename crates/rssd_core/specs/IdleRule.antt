@@ -35,8 +35,8 @@ moment_of view = record { die = view.die; book = view.book; seq = view.seq }
 abbrev pub NoMoveLeft : Moment → Type 0
 NoMoveLeft m = NoneFits m.book 1 (room_left m.book) ⊎ (2 ^ 62 ≤ m.seq)
 
--- The live record of a sector was moved by the idle-move rule: it is the first, by page and then by slot, of the block that is the
--- idle victim for the room, and stands on the Active block's page `fill`, of kind 1, or 3 where it holds zeros. The record effect followed.
+-- The live record of a sector was moved by the idle-move rule: it was the first, by page and then by slot, of the idle victim for
+-- the room, and stands on the Active block's page `fill`, of kind 1, or of kind 3 where it holds zeros. The record effect followed.
 pub record MoveByRule (d : Numbers) (sector : ℕ) (old new : Moment) : Type 0 where
   pub block : ℕ
   pub fill : ℕ
@@ -96,7 +96,8 @@ pub record MoveBroken (d : Numbers) (old : Moment) (new : DeviceView) : Type 0 w
   pub book : new.book ≡ old.book
   pub failed : ChangeFailed 2 (move_reads d.geometry) old.die new.die
 
--- The records of these sectors, fewer than n, were moved by the idle-move rule. Then there was one more to move, and it was not finished.
+-- The records of these sectors, fewer than n, were moved by the idle-move rule. There was one more to move, and that move was not
+-- finished.
 pub record IdleUnfinished (d : Numbers) (n : ℕ) (old new : DeviceView) : Type 0 where
   pub sectors : List ℕ
   pub some_left : length sectors < n

@@ -12,7 +12,7 @@ use Rattle.rssd_run.specs.View.{Event, NoFailure}
 use Rattle.rssd_run.specs.Held.{Tallies, plus, on, off, Calm}
 use Rattle.rssd_run.specs.Step.{IsStep}
 use Rattle.rssd_run.proofs.Came.{went_lowers, none_came, ACutCame, change_came, AReadCame, read_came, change_rose, read_rose}
-use Rattle.rssd_core.specs.Moves.{IdleMoves}
+use Rattle.rssd_core.specs.IdleRule.{IdleMoves, IdleUnfinished}
 use Rattle.cell_die.specs.DieState.{DieState}
 use Rattle.cell_die.specs.Calls.{PassedWithin}
 use Rattle.rssd_run.proofs.WriteSteps.{event_of, must_not, calm_rows}
@@ -31,7 +31,31 @@ idle_plus d base n old new changes reads w = record {
 }
 
 pub moves_plus : (d : Numbers) (base : Tallies) (old new : DeviceView) (k : ℕ) → IdleMoves d old new k → IdleMoves d (plus base old) (plus base new) k
-moves_plus d base old new k m = (m.0, m.1, m.2, m.3, m.4, record { distinct = m.5.distinct; moved = m.5.moved; others = m.5.others })
+moves_plus d base old new k m = record {
+  sectors = m.sectors;
+  count = m.count;
+  block = m.block;
+  fill = m.fill;
+  active = m.active;
+  in_order = record { distinct = m.in_order.distinct; moved = m.in_order.moved; others = m.in_order.others };
+  book = m.book;
+  by_rule = m.by_rule;
+  recycled = m.recycled;
+}
+
+pub unfinished_plus : (d : Numbers) (base : Tallies) (old new : DeviceView) (n : ℕ) → IdleUnfinished d n old new → IdleUnfinished d n (plus base old) (plus base new)
+unfinished_plus d base old new n m = record {
+  sectors = m.sectors;
+  some_left = m.some_left;
+  finished = m.finished;
+  mid = m.mid;
+  by_rule = m.by_rule;
+  one_more = m.one_more;
+  unfinished = elim m.unfinished [
+    | inl unread ↦ inl (record { cells = unread.cells; seq = unread.seq; recycled = unread.recycled; failed = unread.failed })
+    | inr broken ↦ inr (record { rows = broken.rows; seq = broken.seq; book = broken.book; failed = broken.failed })
+  ];
+}
 
 pub bounded : {changes reads : ℕ} {old new : DieState} → PassedWithin changes reads old new → Went changes reads (Unit {0}) old new
 bounded within = record { within = within; exact = λ not. absurd (not tt) }
@@ -200,7 +224,7 @@ idle_read_fault d base old new n power holds w f =
         tallies = record { first = omega (arith, w.counts.first); second = omega (arith, w.counts.second); declined = omega (arith, w.counts.declined) };
       };
       true_book = λ h. holds.true_book f.running;
-      moves = (record { book = plus_book d base old.view new.view (λ rise at came. at power came) w.book; seq = plus_seq d base old.view new.view w.seq }, tt);
+      moves = (record { book = plus_book d base old.view new.view (λ rise at came. at power came) w.book; seq = plus_seq d base old.view new.view w.seq }, unfinished_plus d base old.view new.view n w.moves);
       armed = record {
         arms = tt;
         lowers = λ a not. absurd (not refl);
@@ -242,7 +266,7 @@ idle_change_fault d base old new n power calm holds w f =
         tallies = record { first = omega (arith, w.counts.first); second = omega (arith, w.counts.second); declined = omega (arith, w.counts.declined) };
       };
       true_book = λ on. absurd on;
-      moves = (record { book = plus_book d base old.view new.view (λ rise at came. at power came) w.book; seq = plus_seq d base old.view new.view w.seq }, tt);
+      moves = (record { book = plus_book d base old.view new.view (λ rise at came. at power came) w.book; seq = plus_seq d base old.view new.view w.seq }, unfinished_plus d base old.view new.view n w.moves);
       armed = record {
         arms = tt;
         lowers = λ a not. absurd (not refl);

@@ -26,7 +26,7 @@ use Rattle.rssd_core.specs.Outcomes.{Holds, Idled, IdleFault}
 use Rattle.rssd_run.proofs.Came.{change_rose, read_rose}
 use Rattle.rssd_run.proofs.Parts.{not_refused, keeps, plus_book, plus_seq}
 use Rattle.rssd_run.proofs.Still.{keeps_cells, same_book, same_seq}
-use Rattle.rssd_run.proofs.CommandSteps.{moves_plus}
+use Rattle.rssd_run.proofs.CommandSteps.{moves_plus, unfinished_plus}
 use Rattle.rssd_run.proofs.WriteSteps.{event_of, sector_in, bytes_in, must_not, offered_both, over_plus, neither}
 
 -- ---- a step whose die tells its power is a played step too
@@ -310,7 +310,7 @@ played_idle_read_fault d base old new n holds w f =
       stays = must_not;
       tallies = record { first = omega (arith, w.counts.first); second = omega (arith, w.counts.second); declined = omega (arith, w.counts.declined) };
       true_book = λ h. holds.true_book f.running;
-      moves = record { book = plus_book d base old.view new.view (λ rise at. tt) w.book; seq = plus_seq d base old.view new.view w.seq; records = tt };
+      moves = record { book = plus_book d base old.view new.view (λ rise at. tt) w.book; seq = plus_seq d base old.view new.view w.seq; records = unfinished_plus d base old.view new.view n w.moves };
     }
 
 pub played_idle_change_fault : (d : Numbers) (base : Tallies) (old new : DeviceValue) (n : ℕ) → Holds d old new → IdleFault d n old new → IsSound d.geometry old.view.die.cells → ChangeFault d (WithinIdle d n old.view new.view) (rows_of d old.view) old new
@@ -330,7 +330,7 @@ played_idle_change_fault d base old new n holds w sound f =
       stays = must_not;
       tallies = record { first = omega (arith, w.counts.first); second = omega (arith, w.counts.second); declined = omega (arith, w.counts.declined) };
       true_book = λ on. absurd on;
-      moves = record { book = plus_book d base old.view new.view (λ rise at. tt) w.book; seq = plus_seq d base old.view new.view w.seq; records = tt };
+      moves = record { book = plus_book d base old.view new.view (λ rise at. tt) w.book; seq = plus_seq d base old.view new.view w.seq; records = unfinished_plus d base old.view new.view n w.moves };
     }
 
 -- ---- reads

@@ -8,7 +8,8 @@ use Rattle.rssd_core.specs.declared.device.Placed.TheVariants.{First as PutFirst
 use Rattle.rssd_core.specs.SectorArray.{filled_up}
 use Rattle.rssd_core.specs.BookChanges.{Change}
 use Rattle.rssd_core.specs.DeviceValue.{Numbers}
-use Rattle.rssd_core.specs.Moves.{MovesBook, MovesSeq, IdleMoves, CollectAtCut}
+use Rattle.rssd_core.specs.Moves.{MovesBook, MovesSeq, CollectAtCut}
+use Rattle.rssd_core.specs.IdleRule.{IdleMoves, IdleUnfinished}
 use Rattle.rssd_core.specs.Outcomes.{WriteMay, WriteFaultMay, TrimMay, IdleMay, RisesSealed, RisesTo, RisesFinished, WriteAtCut, IdleAtCut}
 use Rattle.rssd_core.specs.Mount.{IsMountedView}
 use Rattle.rssd_core.specs.Failures.{cut_of}
@@ -47,9 +48,11 @@ pub record ByRules (d : Numbers) (e : Event) : Type 0 where
   pub book : MovesBook d (MayChange e.line e.reply) (RisesBy e e.line e.reply) (WhereCutCame d e) e.before.device e.after.device
   pub seq : MovesSeq d e.before.device e.after.device
 
--- an idle call that answers k moves the live records of exactly k sectors
+-- an idle call that answers k moves the live records of exactly k sectors by the idle-move rule; before a fault some were moved
+-- by it, and one more was not finished
 abbrev pub MovesRecords : Numbers → Event → Line → Reply → Type 0
 MovesRecords d e (Idle n) (Moves k) = IdleMoves d e.before.device e.after.device k
+MovesRecords d e (Idle n) Fault = IdleUnfinished d n e.before.device e.after.device
 MovesRecords d e line reply = Unit {0}
 
 -- a mount with ok makes its own book; any other line moves the book, the seqs and the tally by rules

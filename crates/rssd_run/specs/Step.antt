@@ -13,7 +13,7 @@ use Rattle.rssd_script.specs.declared.replies.Reply.TheVariants.{First, Second, 
 use Rattle.rssd_core.specs.SectorArray.{filled_up}
 use Rattle.rssd_core.specs.DeviceValue.{Numbers, DeviceView}
 use Rattle.rssd_core.specs.Moves.{ChangesRose, ChangesStayed}
-use Rattle.rssd_core.specs.Outcomes.{NoMoveLeft}
+use Rattle.rssd_core.specs.IdleRule.{NoMoveLeft, moment_of}
 use Rattle.rssd_core.specs.Mount.{EveryBlockLive}
 use Rattle.rssd_run.specs.ArrayWithCuts.{Row}
 use Rattle.rssd_run.specs.View.{View, Event, StandsFor, IsOn, IsOff, faults, ACut, AReadFailure, NoFailure, erased, IsCommand}
@@ -71,7 +71,7 @@ pub record OffExactly (e : Event) : Type 0 where
 
 -- `idle n` answers n, or less only where no idle victim fits afterwards or the numbers are spent
 abbrev pub IdleAnswer : Event → Line → Reply → Type 0
-IdleAnswer e (Idle n) (Moves k) = (k ≤ n) × (k < n → NoMoveLeft e.after.device)
+IdleAnswer e (Idle n) (Moves k) = (k ≤ n) × (k < n → NoMoveLeft (moment_of e.after.device))
 IdleAnswer e line reply = Unit {0}
 
 -- `stat` answers the tallies and the sum of the erase counts
