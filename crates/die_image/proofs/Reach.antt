@@ -29,9 +29,6 @@ more_within : (is_old : Bool) (n k : ℕ) (read : Result ImageHead ImageError) �
 more_within is_old n k (Ok head) le within fits = omega arith
 more_within is_old n k (Err why) le within fits = omega arith
 
-pub fresh_within : (fed : Fed) → length fed.bytes ≤ 0 → IsWithinReach fed
-fresh_within fed none = omega (arith, head_within fed.is_old (head_read fed.is_old fed.bytes))
-
 pub stays_within : (fed : Fed) (piece : List ℕ) → fed.is_failed ≡ false → IsWithinReach fed → length piece ≤ wanted fed → IsWithinReach (record fed { bytes = fed.bytes ++ piece })
 stays_within fed piece well within fits =
     elim (cases_lt (length fed.bytes) (head_length fed.is_old)) [

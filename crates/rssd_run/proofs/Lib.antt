@@ -15,6 +15,8 @@ pub mod Fields
 pub mod Runs
 pub mod Errors
 pub mod ReadScript
+pub mod ReadImage
+pub mod GiveImage
 pub mod BlankCells
 pub mod HeadLimits
 pub mod BlankStart

@@ -12,6 +12,7 @@ pub mod Steps
 pub mod Shows
 pub mod Played
 pub mod ReadScript
+pub mod ReadImage
 pub mod Schemes
 pub mod Replays
 pub mod Top

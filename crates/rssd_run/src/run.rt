@@ -6,6 +6,7 @@ ghost use Rattle.rssd_io.specs.Faults.{HasCause};
 ghost use Rattle.rssd_run.specs.Run.{RunsSession, CutsOffSession};
 ghost use Rattle.rssd_run.specs.Shows.{SessionValue, CanStep, HasNumbers, StepsSession};
 
+pub mod image;
 pub mod line;
 pub mod replay;
 pub mod schemes;

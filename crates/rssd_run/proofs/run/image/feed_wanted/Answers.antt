@@ -1,0 +1,43 @@
+-- Each piece is of what the reader wants, and so within its reach.
+use Rattle.std.proofs.Common.{ℕ, ◌<◌, ◌≤◌, ◌++◌, List, length, take, arith, refl, ◌∙◌}
+use Rattle.std.proofs.lemmas.List.{take-append-le, length-take}
+use Rattle.die_image.specs.Image.{wanted, Fed}
+use Rattle.rssd_run.proofs.ReadImage.{taken, falls, fed_more, fed_same, fed_kept}
+use Rattle.rssd_run.proofs.run.image.feed_wanted.Goals as goal
+
+pub returns-in-Ok-eq0-clause-bounded : goal.returns-in-Ok-eq0-clause-bounded
+returns-in-Ok-eq0-clause-bounded g c =
+    taken _ _ c.args.reader.now c.loop-room.reader (fed_same _ (g.I.Source.left c.loop-room.image) _ c.args.reader.now c.loop-room.reader c.loop-room.invariant.fed (rw c.in-Ok-eq0.field-0-test at c.in-Ok-eq0.ensures.bytes.0))
+
+pub returns-in-Err-feed-clause-bounded : goal.returns-in-Err-feed-clause-bounded
+returns-in-Err-feed-clause-bounded g c =
+    let piece : List ℕ = take c.in-Ok.count c.take.new.into in
+    let next : Fed = record c.loop-room.reader { bytes = c.loop-room.reader.bytes ++ piece } in
+    let fits : length piece ≤ wanted c.loop-room.reader = omega (arith, c.in-Ok.ensures.bound, c.take.auto.into, length-take c.loop-room.room c.loop-room.piece) in
+    taken _ _ c.args.reader.now next (fed_more _ (g.I.Source.left c.loop-room.image) _ c.args.reader.now c.loop-room.reader next piece c.loop-room.invariant.fed c.in-Ok.ensures.bytes.0 fits refl)
+
+pub loop-room-smaller : goal.loop-room-smaller
+loop-room-smaller g c =
+    let piece : List ℕ = take c.in-Ok.count c.take.new.into in
+    let fits : length piece ≤ wanted c.loop-room.reader = omega (arith, c.in-Ok.ensures.bound, c.take.auto.into, length-take c.loop-room.room c.loop-room.piece) in
+    let some : 0 < length piece = omega (arith, c.in-Ok.ensures.bound, c.in-Ok.count-test) in
+    let in_front : c.in-Ok.count ≤ length c.take.new.into = c.in-Ok.ensures.bound.0 in
+    falls c.loop-room.reader c.feed.new.self piece c.loop-room.invariant.fed.well c.loop-room.invariant.fed.within fits some (rw take-append-le at c.in-Ok-feed.ensures.fed.1)
+
+pub loop-room-preserved : goal.loop-room-preserved
+loop-room-preserved g c =
+    let piece : List ℕ = take c.in-Ok.count c.take.new.into in
+    let fits : length piece ≤ wanted c.loop-room.reader = omega (arith, c.in-Ok.ensures.bound, c.take.auto.into, length-take c.loop-room.room c.loop-room.piece) in
+    let in_front : c.in-Ok.count ≤ length c.take.new.into = c.in-Ok.ensures.bound.0 in
+    record {
+      fed = fed_more _ (g.I.Source.left c.loop-room.image) _ c.args.reader.now c.loop-room.reader c.feed.new.self piece c.loop-room.invariant.fed c.in-Ok.ensures.bytes.0 fits (rw take-append-le at c.in-Ok-feed.ensures.fed.1);
+      room = c.next_count-room-in-Ok-feed.ensures;
+      faults = c.in-Ok.ensures.cause.kept ∙ c.loop-room.invariant.faults;
+    }
+
+pub returns-in-Err-clause-bounded : goal.returns-in-Err-clause-bounded
+returns-in-Err-clause-bounded g c =
+    taken _ _ c.args.reader.now c.loop-room.reader (fed_kept _ (g.I.Source.left c.loop-room.image) _ c.args.reader.now c.loop-room.reader c.loop-room.invariant.fed c.in-Err.ensures.bytes)
+
+pub returns-clause-bounded : goal.returns-clause-bounded
+returns-clause-bounded g c = taken _ _ c.args.reader.now c.loop-room.reader c.loop-room.invariant.fed
