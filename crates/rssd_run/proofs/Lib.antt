@@ -17,6 +17,7 @@ pub mod Errors
 pub mod ReadScript
 pub mod BlankCells
 pub mod HeadLimits
+pub mod DieStart
 pub mod BlankStart
 pub mod Calm
 pub mod Headline
