@@ -1,31 +1,46 @@
 -- Where nothing is armed and no line arms anything, no reply is `fault` or `no spare`, and the array stays on while memory lasts.
-use Rattle.std.proofs.Common.{◌≡◌, inl, inr, ℕ, true, false, All, List, [], ◌∷◌, slice_index_or, IsSomeAnd, Option, None, Some, refl, sym, ap, ◌∙◌, arith, subst}
+use Rattle.std.proofs.Common.{◌≡◌, ◌⊎◌, inl, inr, ℕ, ◌<◌, true, false, All, IsTrue, List, [], ◌∷◌, length, slice_index_or, Option, refl, sym, ap, ◌∙◌, arith, subst}
+use Rattle.std.proofs.lemmas.Bool.{cases_lt}
+use Rattle.std.proofs.lemmas.List.{get_or_past}
 use Rattle.rssd_core.specs.SectorArray.{written, trimmed}
 use Rattle.std.specs.List.{AllByRecursion}
 use Rattle.std.proofs.lemmas.List.Elements.{All-from_recursion, All-head, All-tail}
-use Rattle.cell_die.specs.DieState.{Failures}
-use Rattle.cell_die.specs.Calls.{WhilePowered, Nearer}
-use Rattle.page_codec.specs.Sound.{IsSound}
+use Rattle.cell_die.specs.DieState.{DieState}
+use Rattle.cell_die.specs.Calls.{IsQuiet}
+use Rattle.page_codec.specs.Geometry.{Geometry}
+use Rattle.page_codec.specs.Sound.{live_count}
+use Rattle.page_codec.specs.TrueBook.{IsTrueState, IsTrueBook, live_map}
+use Rattle.block_state.specs.declared.state.State.{State}
+use Rattle.block_state.specs.declared.state.State.TheVariants.{Clean, Active, Used, Recycled, Reused, Spare}
+use Rattle.block_state.specs.State.{is_spare}
+use Rattle.block_state.specs.Book.{BookValue, IsSpare, state_at}
 use Rattle.rssd_script.specs.declared.lines.Line.{Line}
 use Rattle.rssd_script.specs.declared.lines.Line.TheVariants.{Write, Read, Trim, Idle, Cut, FailRead, Mount, Stat}
 use Rattle.rssd_script.specs.declared.replies.Reply.{Reply}
-use Rattle.rssd_script.specs.declared.replies.Reply.TheVariants.{First, Second, Declined, Bytes, Done, Moves, Stat as Counts, Range, Long, Fault, Spent, NoSpare, NoMemory}
+use Rattle.rssd_script.specs.declared.replies.Reply.TheVariants.{First, Second, Declined, Bytes, Done, Moves, Stat as Counts, Range, Long, Off as SaysOff, Fault, Spent, NoSpare, NoMemory}
 use Rattle.rssd_core.specs.DeviceValue.{Numbers, DeviceView}
-use Rattle.rssd_core.specs.Failures.{cut_of, read_failure_of, cut_in, read_in}
-use Rattle.rssd_run.specs.ArrayWithCuts.{ArrayState, On, Off, Row, OnRow, WriteRow, TrimRow, ReadRow, IdleRow, ArmRow, StatRow, MountRow}
-use Rattle.rssd_run.specs.View.{View, Event, IsOn, IsOff}
+use Rattle.rssd_core.specs.Failures.{cut_of, read_failure_of}
+use Rattle.rssd_run.specs.ArrayWithCuts.{ArrayState, On, Off, Row, OnRow, OffRow, RefusedRow, WriteRow, TrimRow, ReadRow, IdleRow, ArmRow, StatRow, MountRow}
+use Rattle.rssd_run.specs.View.{View, Event, IsOn, IsOff, IsCommand}
 use Rattle.rssd_run.specs.Armed.{IsArming}
-use Rattle.rssd_run.specs.Step.{IsStep}
-use Rattle.rssd_run.specs.Run.{IsRun, lines_of}
+use Rattle.rssd_run.specs.Step.{IsStep, IsRefusal}
+use Rattle.rssd_run.specs.Run.{IsRun, CalmFor, lines_of}
 use Rattle.rssd_run.specs.Calm.{is_arming, NeverFails, OffAfterNoMemory, IsCalm}
-use Rattle.rssd_run.specs.Replays.{IsBlankStart, numbers_named, Replays}
+use Rattle.rssd_run.specs.Heads.{numbers_named}
+use Rattle.rssd_run.specs.DieRuns.{IsStart, RunsTo, RunsOn}
+use Rattle.rssd_run.specs.Replays.{IsBlankStart, Replays}
+use Rattle.rssd_run.proofs.DieStart.{quiet_after}
 use Rattle.die_image.specs.declared.head.ImageHead.{ImageHead}
 
--- nothing is armed, and the cells are sound
+-- some block has no live record
+abbrev HasFree : Geometry → List (List ℕ) → Type 0
+HasFree g cells = (block : ℕ) × (block < g.blocks) × (live_count g cells block ≡ 0)
+
+-- nothing is armed, and some block has no live record
 pub record IsUnarmed (d : Numbers) (view : View) : Type 0 where
   pub cut : cut_of view.device.die ≡ 0
   pub read : read_failure_of view.device.die ≡ 0
-  pub sound : IsSound d.geometry view.device.die.cells
+  pub free : HasFree d.geometry view.device.die.cells
 
 never_arming : (line : Line) (reply : Reply) → is_arming line ≡ false → IsArming line reply → ⊥
 never_arming (Write sector bytes) reply e arming = arming
@@ -44,19 +59,10 @@ step_fails d e step unarmed = record {
     | inr read ↦ (let armed = read.0 in let none = unarmed.read in omega (arith, armed, none))
   ];
   no_spare_found = λ said.
-      let live = (step.answers.no_spare.only said).2 unarmed.sound.one_free.0 unarmed.sound.one_free.1 in
-      let none = unarmed.sound.one_free.2 in
+      let live = (step.answers.no_spare.only said).2 unarmed.free.0 unarmed.free.1 in
+      let none = unarmed.free.2 in
       omega (arith, live, none);
 }
-
-step_unarmed : (d : Numbers) (e : Event) → IsStep d e → IsUnarmed d e.before → is_arming e.line ≡ false → IsUnarmed d e.after
-step_unarmed d e step unarmed other =
-    let low = step.armed.lowers (never_arming e.line e.reply other) (step_fails d e step unarmed).no_fault in
-    let cut = low.cut.lower in
-    let read = low.read_bound.no_later in
-    let no_cut = unarmed.cut in
-    let no_read = unarmed.read in
-    record { cut = omega (arith, cut, no_cut); read = omega (arith, read, no_read); sound = step.keeps.sound unarmed.sound }
 
 -- ---- the array stays on
 
@@ -124,6 +130,91 @@ not_both : (array : ArrayState) → IsOn array → IsOff array → ⊥
 not_both (On rows) on off = off
 not_both (Off old new) on off = on
 
+-- ---- some block stays without a live record
+
+spare_is_free : (g : Geometry) (cells : List (List ℕ)) (block : ℕ) (state : State) → IsTrue (is_spare state) → IsTrueState g cells block state → live_count g cells block ≡ 0
+spare_is_free g cells block (Spare blank) is free = free.free
+spare_is_free g cells block Clean is free = absurd is
+spare_is_free g cells block (Active fill) is free = absurd is
+spare_is_free g cells block (Used level) is free = absurd is
+spare_is_free g cells block (Recycled level next) is free = absurd is
+spare_is_free g cells block Reused is free = absurd is
+
+spare_within : (book : BookValue) (block : ℕ) → IsSpare book block → block < length book.states
+spare_within book block is = elim (cases_lt block (length book.states)) [
+  | inl within ↦ within
+  | inr past ↦ absurd (subst (λ (state : State). IsTrue (is_spare state)) (get_or_past book.states block Clean past) is)
+]
+
+-- a true book has a Spare block
+book_free : (d : Numbers) (cells : List (List ℕ)) (book : BookValue) (seq : ℕ) → IsTrueBook d.geometry d.reuse_max cells book (live_map d.geometry cells) seq → HasFree d.geometry cells
+book_free d cells book seq true_book =
+    let t = true_book.tables in
+    let block = t.one_spare.0 in
+    let within = spare_within book block t.one_spare.1 in
+    let below : block < d.geometry.blocks = omega (arith, within, t.sizes.blocks) in
+    (block, below, spare_is_free d.geometry cells block (state_at book block) t.one_spare.1 (t.states block below))
+
+-- a line that leaves the array off is refused, or is no command
+is_command : (line : Line) → IsCommand line ⊎ (IsCommand line → ⊥)
+is_command (Write sector bytes) = inl tt
+is_command (Read sector) = inr (λ command. command)
+is_command (Trim sector) = inl tt
+is_command (Idle n) = inl tt
+is_command (Cut n torn) = inr (λ command. command)
+is_command (FailRead n) = inr (λ command. command)
+is_command Mount = inr (λ command. command)
+is_command Stat = inr (λ command. command)
+
+command_on : (size : ℕ) (rows : List (List ℕ)) (line : Line) (reply : Reply) (next : ArrayState) → IsCommand line → OnRow size rows line reply next → (reply ≡ Fault → ⊥) → IsOn next
+command_on size rows (Write sector bytes) reply next command row good = write_on rows (written size rows sector bytes) reply next row good
+command_on size rows (Trim sector) reply next command row good = trim_on rows (trimmed size rows sector) reply next row good
+command_on size rows (Idle n) reply next command row good = idle_on rows reply next row good
+command_on size rows (Read sector) reply next command row good = absurd command
+command_on size rows (Cut n torn) reply next command row good = absurd command
+command_on size rows (FailRead n) reply next command row good = absurd command
+command_on size rows Mount reply next command row good = absurd command
+command_on size rows Stat reply next command row good = absurd command
+
+only_off : (state next : ArrayState) (reply : Reply) → RefusedRow state reply next → IsRefusal reply
+only_off state next SaysOff row = tt
+only_off state next reply row = absurd row
+
+refused_off : (size : ℕ) (old new : List (List ℕ)) (line : Line) (reply : Reply) (next : ArrayState) → IsCommand line → OffRow old new line reply next → IsRefusal reply
+refused_off size old new (Write sector bytes) reply next command row = only_off (Off old new) next reply row
+refused_off size old new (Trim sector) reply next command row = only_off (Off old new) next reply row
+refused_off size old new (Idle n) reply next command row = only_off (Off old new) next reply row
+refused_off size old new (Read sector) reply next command row = absurd command
+refused_off size old new (Cut n torn) reply next command row = absurd command
+refused_off size old new (FailRead n) reply next command row = absurd command
+refused_off size old new Mount reply next command row = absurd command
+refused_off size old new Stat reply next command row = absurd command
+
+on_or_refused : (size : ℕ) (array : ArrayState) (line : Line) (reply : Reply) (next : ArrayState) → IsCommand line → Row size array line reply next → (reply ≡ Fault → ⊥) → IsOn next ⊎ IsRefusal reply
+on_or_refused size (On rows) line reply next command row good = inl (command_on size rows line reply next command row good)
+on_or_refused size (Off old new) line reply next command row good = inr (refused_off size old new line reply next command row)
+
+step_free : (d : Numbers) (e : Event) → IsStep d e → IsUnarmed d e.before → HasFree d.geometry e.after.device.die.cells
+step_free d e step unarmed =
+    let same : IsRefusal e.reply ⊎ (IsCommand e.line → ⊥) → HasFree d.geometry e.after.device.die.cells =
+        λ stays. subst (HasFree d.geometry) (sym (step.answers.stays stays).cells) unarmed.free in
+    elim (is_command e.line) [
+      | inr other ↦ same (inr other)
+      | inl command ↦ elim (on_or_refused d.geometry.sector_bytes e.before.array e.line e.reply e.after.array command step.row (step_fails d e step unarmed).no_fault) [
+        | inl on ↦ book_free d e.after.device.die.cells e.after.device.book e.after.device.seq (step.true_book on)
+        | inr refused ↦ same (inl refused)
+      ]
+    ]
+
+step_unarmed : (d : Numbers) (e : Event) → IsStep d e → IsUnarmed d e.before → is_arming e.line ≡ false → IsUnarmed d e.after
+step_unarmed d e step unarmed other =
+    let low = step.armed.lowers (never_arming e.line e.reply other) (step_fails d e step unarmed).no_fault in
+    let cut = low.cut.lower in
+    let read = low.read_bound.no_later in
+    let no_cut = unarmed.cut in
+    let no_read = unarmed.read in
+    record { cut = omega (arith, cut, no_cut); read = omega (arith, read, no_read); free = step_free d e step unarmed }
+
 -- ---- whole runs
 
 runs_on : (d : Numbers) (before : View) (events : List Event) (after : View) → IsRun d before events after → IsUnarmed d before → IsOn before.array → AllByRecursion (λ (e : Event). is_arming e.line ≡ false) events → OffAfterNoMemory events
@@ -155,27 +246,35 @@ runs_calmly d before events after run unarmed on none = record {
   off = runs_on d before events after run unarmed on (each_line events none);
 }
 
--- ---- the first view of a replay
-
-quiet_after : (changes reads : ℕ) (old new : Option Failures) → IsSomeAnd old (λ failures. (failures.powered ≡ true) × (failures.cut ≡ 0) × (failures.read_failure ≡ 0))
-    → WhilePowered old new (Nearer changes reads) → (cut_in new ≡ 0) × (read_in new ≡ 0)
-quiet_after changes reads None new quiet passed = absurd quiet
-quiet_after changes reads (Some a) None quiet passed = absurd passed
-quiet_after changes reads (Some a) (Some b) quiet passed =
-    let near = passed quiet.0 in
-    let cut = near.cut in
-    let read = near.read_failure in
-    let no_cut = quiet.1 in
-    let no_read = quiet.2 in
-    (omega (arith, cut, no_cut), omega (arith, read, no_read))
+-- ---- the first view of a run
 
 start_unarmed : (head : ImageHead) (view : View) → IsBlankStart head view → IsUnarmed (numbers_named head) view
 start_unarmed head view start =
     let same : view.device.die ≡ start.device.view.die = ap (λ (v : DeviceView). v.die) start.same in
     let q = quiet_after _ _ start.die.failures start.device.view.die.failures start.blank.quiet start.mounts.calls.failures in
-    record { cut = ap cut_of same ∙ q.0; read = ap read_failure_of same ∙ q.1; sound = start.sound }
+    record { cut = ap cut_of same ∙ q.0; read = ap read_failure_of same ∙ q.1; free = start.sound.one_free }
 
 pub replays_calmly : (head : ImageHead) (lines : List Line) (written written_after : Option (List ℕ)) (r : Replays head lines written written_after) → All (λ line. is_arming line ≡ false) lines → IsCalm r.run.events
 replays_calmly head lines written written_after r none =
     runs_calmly (numbers_named head) r.before r.run.events r.after r.run.run (start_unarmed head r.before r.start)
     (subst IsOn (sym r.start.zeros) tt) (subst (All (λ line. is_arming line ≡ false)) (sym r.run.of_lines) none)
+
+-- a device that was mounted on an image has a Spare block
+image_unarmed : (head : ImageHead) (die : DieState) (view : View) → IsQuiet die → IsStart head die view → IsUnarmed (numbers_named head) view
+image_unarmed head die view quiet start =
+    let d = numbers_named head in
+    let same : view.device.die ≡ start.device.view.die = ap (λ (v : DeviceView). v.die) start.same in
+    let q = quiet_after _ _ die.failures start.device.view.die.failures quiet start.mounts.calls.failures in
+    record {
+      cut = ap cut_of same ∙ q.0;
+      read = ap read_failure_of same ∙ q.1;
+      free = subst (HasFree d.geometry) (ap (λ (die : DieState). die.cells) (sym same))
+          (book_free d start.device.view.die.cells start.device.view.book start.device.view.seq (start.mounts.true_book start.mounts.running));
+    }
+
+pub images_calmly : (head : ImageHead) (die : DieState) (lines : List Line) (written written_after : Option (List ℕ)) (last : DieState) (quiet : IsQuiet die) (r : RunsOn head die lines written written_after last)
+    (calm : CalmFor (numbers_named head) die lines) → All (λ line. is_arming line ≡ false) lines → IsCalm (r.run calm).run.events
+images_calmly head die lines written written_after last quiet r calm none =
+    let to : RunsTo (numbers_named head) r.before lines written written_after last = r.run calm in
+    runs_calmly (numbers_named head) r.before to.run.events to.after to.run.run (image_unarmed head die r.before quiet r.start)
+    (subst IsOn (sym r.start.rows) tt) (subst (All (λ line. is_arming line ≡ false)) (sym to.run.of_lines) none)

@@ -10,7 +10,7 @@ use Rattle.die_image.specs.Schemes.{row_of}
 use Rattle.die_image.specs.Image.{is_within_limits, die_bytes, shape_of}
 use Rattle.rssd_core.specs.Mount.{Fits, IsServed}
 use Rattle.rssd_run.specs.Schemes.{meaning_named, plain_meaning, pair_meaning, coset_meaning, flip_meaning, seven_meaning, HasRow}
-use Rattle.rssd_run.specs.Replays.{plan_of}
+use Rattle.rssd_run.specs.Heads.{plan_of}
 
 all_parts : (a b c d e f g h : Bool) → (a && b && c && d && e && f && g && h) ≡ true
     → (a ≡ true) × (b ≡ true) × (c ≡ true) × (d ≡ true) × (e ≡ true) × (f ≡ true) × (g ≡ true) × (h ≡ true)

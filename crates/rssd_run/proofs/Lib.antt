@@ -19,6 +19,7 @@ pub mod ReadImage
 pub mod GiveImage
 pub mod BlankCells
 pub mod HeadLimits
+pub mod DieStart
 pub mod BlankStart
 pub mod Calm
 pub mod Headline

@@ -22,7 +22,8 @@ use Rattle.rssd_run.specs.Moves.{BookMoves}
 use Rattle.rssd_run.specs.Step.{IsStep, NumbersSpent}
 use Rattle.rssd_run.specs.Run.{IsRun, lines_of}
 use Rattle.rssd_run.specs.Calm.{NeverSpends}
-use Rattle.rssd_run.specs.Replays.{IsBlankStart, numbers_named, Replays}
+use Rattle.rssd_run.specs.Heads.{numbers_named}
+use Rattle.rssd_run.specs.Replays.{IsBlankStart, Replays}
 
 -- the next seq is at most the bound, and every valid header's is below it
 record IsBelow (d : Numbers) (bound : ℕ) (view : View) : Type 0 where

@@ -14,7 +14,10 @@ pub mod Played
 pub mod ReadScript
 pub mod ReadImage
 pub mod Schemes
+pub mod Heads
+pub mod DieRuns
 pub mod Replays
+pub mod ImageRuns
 pub mod Top
 pub mod Calm
 pub mod Headline

@@ -6,7 +6,7 @@ mod row;
 pub mod run;
 mod status;
 
-pub use run::whole::rssd;
+pub use run::top::rssd;
 
 #[cfg(test)]
 mod tests;

@@ -1,9 +1,10 @@
-//! The lines of refusal: what `out` is told before a status that refuses words or a script.
+//! The lines of refusal: what `out` is told before a status that refuses words, a script or an image.
 ghost use Rattle.std.specs.Prelude.{◌≡◌};
-ghost use Rattle.rssd_run.specs.Statuses.{TookLine, RefusesSo, bad_line};
+ghost use Rattle.rssd_run.specs.Statuses.{TookLine, RefusesSo, RefusesImageSo, bad_line};
 
 use crate::status::Status;
 use arrayvec::ArrayVec;
+use die_image::ImageError;
 use itoa::Buffer;
 use rssd_io::Sink;
 use rssd_script::ScriptError;
@@ -41,5 +42,29 @@ pub fn refuse_script<O: Sink>(out: &mut O, why: ScriptError) -> Status
             Status::BadScript
         }
         ScriptError::OutOfMemory => Status::OutOfMemory,
+    }
+}
+
+/// Refuses an image with this line.
+fn refuse_with<O: Sink>(out: &mut O, line: &[u8]) -> Status
+    ensures status { result ≡ Status.BadImage }
+    ensures line { TookLine (O.written out.old) (O.written out.new) (O.faults out.old) (O.faults out.new) line.now }
+{
+    refuse(out, line);
+    Status::BadImage
+}
+
+/// Refuses an image.
+pub fn refuse_image<O: Sink>(out: &mut O, why: ImageError) -> Status
+    ensures { RefusesImageSo why result (O.written out.old) (O.written out.new) (O.faults out.old) (O.faults out.new) }
+{
+    match why {
+        ImageError::OutOfMemory => Status::OutOfMemory,
+        ImageError::Magic => refuse_with(out, b"bad image magic\n"),
+        ImageError::Version => refuse_with(out, b"bad image version\n"),
+        ImageError::Shape => refuse_with(out, b"bad image shape\n"),
+        ImageError::Short => refuse_with(out, b"bad image short\n"),
+        ImageError::Long => refuse_with(out, b"bad image long\n"),
+        ImageError::PadCells => refuse_with(out, b"bad image pad\n"),
     }
 }

@@ -7,13 +7,14 @@ ghost use Rattle.rssd_run.specs.Run.{RunsSession, CutsOffSession};
 ghost use Rattle.rssd_run.specs.Shows.{SessionValue, CanStep, HasNumbers, StepsSession};
 
 pub mod image;
+pub mod image_run;
 pub mod line;
+pub mod on_die;
 pub mod replay;
 pub mod schemes;
 pub mod script;
 pub mod session;
 pub mod top;
-pub mod whole;
 
 use rssd_io::{Sink, WriteFault};
 use rssd_script::{Line, Reply, print_reply};

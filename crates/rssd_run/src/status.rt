@@ -9,6 +9,8 @@ pub enum Status {
     BadWords = 2,
     /// The script is too long, or a line of it is bad.
     BadScript = 3,
+    /// The image is none, or each of its blocks has a live record.
+    BadImage = 4,
     /// A source failed.
     ReadFault = 5,
     /// A sink failed.

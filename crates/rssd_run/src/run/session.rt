@@ -2,6 +2,7 @@
 //! after a failed change call or a mount that was refused, until a mount. From each view that it stands for, a line with its
 //! reply is a step to one that it stands for afterwards. Only the line `mount` takes memory.
 ghost use Rattle.std.specs.Prelude.{◌≡◌, None, Some, IsSome, IfSome, IfNone, IfOk, IfErr, ◌↔◌, OnOk};
+ghost use Rattle.page_codec.specs.Geometry.{shape_of};
 ghost use Rattle.rssd_core.specs.DeviceValue.{Numbers};
 ghost use Rattle.rssd_core.specs.Failures.{TellsPower};
 ghost use Rattle.rssd_core.specs.Mount.{numbers_of, Fits, Refuses};
@@ -164,7 +165,8 @@ impl<D: PowerDie + Drop, C: Scheme + Drop, F: PowerDevice<D, C>> Session<D, C, F
 
     /// Gives the die back.
     pub fn finish(self) -> D
-        ensures { HasDie (D.state result) (session_of D.state C.meaning F.device self).holding }
+        ensures die { HasDie (D.state result) (session_of D.state C.meaning F.device self).holding }
+        ensures shape { (d : Numbers) → HasNumbers d (session_of D.state C.meaning F.device self).holding → (D.state result).shape ≡ shape_of d.geometry }
     {
         let Session {
             mounted,

@@ -1,80 +1,171 @@
-//! The top call: words and input to output and a status. In this form it knows one command, `replay`, with all schemes; any other
-//! words are bad.
-ghost use Rattle.std.specs.Prelude.{◌≡◌, map, string_bytes, IfSome, IfNone};
+//! The top call: words and input to output and a status. It knows the commands `replay`, `run`, `format` and
+//! `upgrade`; any other words are bad.
+ghost use Rattle.std.specs.Prelude.{◌≡◌, map, string_bytes, true, false};
+ghost use Rattle.die_image.specs.Image.{is_within_limits};
 ghost use Rattle.rssd_run.specs.declared.status.Status.{Status as How};
-ghost use Rattle.rssd_run.specs.Statuses.{Call, number_of};
-ghost use Rattle.rssd_run.specs.Top.{IsReplay, SpellNoReplay, Says, IsComplete, status_after};
+ghost use Rattle.rssd_run.specs.ReadImage.{TakesNoMore};
+ghost use Rattle.rssd_run.specs.Statuses.{Call, input, output, number_of};
+ghost use Rattle.rssd_run.specs.Top.{Says, SaysFormat, SaysReplay, SaysRun, SaysUpgrade, ReadNoImage, ReadNoScript, WriteNoImage};
 
-use crate::refusal::{refuse, refuse_script};
-use crate::run::replay::{ReplayError, Replaying, replay};
+use crate::refusal::{refuse, refuse_image, refuse_script};
+use crate::run::image::{ImageReadError, give_image, read_image};
+use crate::run::image_run::run_image;
+use crate::run::on_die::RunError;
+use crate::run::replay::{ReplayError, blank_die, replay};
 use crate::run::script::{ReadError, read_script};
 use crate::status::Status;
-use die_image::ImageHead;
+use die_image::{ImageHead, ImageReader};
 use rssd_io::{Sink, Source};
 use rssd_words::{Command, read_words};
 use std::alloc::Global;
 
-/// The head that the words of `replay` spell.
-fn replay_head(words: &[String]) -> Option<ImageHead>
-    ensures found { IfSome result (IsReplay (map string_bytes words.now)) }
-    ensures none { IfNone result (SpellNoReplay (map string_bytes words.now)) }
+/// Answers `replay`.
+fn answer_replay<T: Source, O: Sink>(
+    alloc: Global,
+    head: &ImageHead,
+    script: &mut T,
+    out: &mut O,
+) -> Status
+    requires { is_within_limits head.now ≡ true }
+    ensures { SaysReplay head.now (input (T.left script.old) (T.left script.new) (T.faults script.old) (T.faults script.new))
+        (output (O.written out.old) (O.written out.new) (O.faults out.old) (O.faults out.new)) result }
 {
-    match read_words(words) {
-        Some(Command::Replay(head)) => Some(head),
-        _ => None,
-    }
-}
-
-/// The status after a replay.
-fn status_after(outcome: Result<(), ReplayError>) -> Status
-    ensures { result ≡ status_after outcome }
-{
-    match outcome {
+    let lines = match read_script(alloc, script) {
+        Ok(lines) => lines,
+        Err(ReadError::Fault) => return Status::ReadFault,
+        Err(ReadError::Refused(why)) => return refuse_script(out, why),
+    };
+    match replay(alloc, head, &lines, out) {
         Ok(()) => Status::Done,
         Err(ReplayError::Sink) => Status::WriteFault,
         Err(ReplayError::OutOfMemory) => Status::OutOfMemory,
     }
 }
 
-/// Answers words with a script, and says how it ended.
-fn answer<R: Replaying, T: Source, O: Sink>(
+/// Answers `run`.
+fn answer_run<I: Source, T: Source, O: Sink, G: Sink>(
     alloc: Global,
-    words: &[String],
+    image: &mut I,
     script: &mut T,
     out: &mut O,
+    image_out: &mut G,
 ) -> Status
-    ensures { Says (record {
-      words = map string_bytes words.now;
-      text = T.left script.old;
-      text_left = T.left script.new;
-      script_faults = T.faults script.old;
-      script_faults_after = T.faults script.new;
-      written = O.written out.old;
-      written_after = O.written out.new;
-      out_faults = O.faults out.old;
-      out_faults_after = O.faults out.new;
-    }) result }
+    ensures says { SaysRun (input (I.left image.old) (I.left image.new) (I.faults image.old) (I.faults image.new))
+        (input (T.left script.old) (T.left script.new) (T.faults script.old) (T.faults script.new))
+        (output (O.written out.old) (O.written out.new) (O.faults out.old) (O.faults out.new))
+        (output (G.written image_out.old) (G.written image_out.new) (G.faults image_out.old) (G.faults image_out.new)) result }
+    ensures no_more { TakesNoMore false (I.left image.old) (I.left image.new) }
 {
-    let Some(head) = replay_head(words) else {
-        refuse(out, b"bad words\n");
-        return Status::BadWords;
+    let lines = match read_script(alloc, script) {
+        Ok(lines) => lines,
+        Err(ReadError::Fault) => return Status::ReadFault,
+        Err(ReadError::Refused(why)) => return refuse_script(out, why),
     };
-    match read_script(alloc, script) {
-        Ok(lines) => status_after(replay::<R, O>(alloc, &head, &lines, out)),
-        Err(ReadError::Fault) => Status::ReadFault,
-        Err(ReadError::Refused(why)) => refuse_script(out, why),
+    let (head, cells) = match read_image(ImageReader::new(alloc), image) {
+        Ok(read) => read,
+        Err(ImageReadError::Fault) => return Status::ReadFault,
+        Err(ImageReadError::Refused(why)) => return refuse_image(out, why),
+    };
+    let die = match run_image(alloc, &head, cells, &lines, out) {
+        Ok(die) => die,
+        Err(RunError::OutOfMemory) => return Status::OutOfMemory,
+        Err(RunError::Sink) => return Status::WriteFault,
+        Err(RunError::NoSpare) => {
+            refuse(out, b"bad image no spare\n");
+            return Status::BadImage;
+        }
+    };
+    match give_image(&head, die.cells(), image_out) {
+        Ok(()) => Status::Done,
+        Err(_) => Status::WriteFault,
     }
 }
 
-/// Answers words, with devices of the kind `R`. The words do not include the program's name.
+/// Answers `format`.
+fn answer_format<G: Sink>(alloc: Global, head: &ImageHead, image_out: &mut G) -> Status
+    requires { is_within_limits head.now ≡ true }
+    ensures { SaysFormat head.now (output (G.written image_out.old) (G.written image_out.new) (G.faults image_out.old) (G.faults image_out.new)) result }
+{
+    let Ok(die) = blank_die(alloc, head) else {
+        return Status::OutOfMemory;
+    };
+    match give_image(head, die.cells(), image_out) {
+        Ok(()) => Status::Done,
+        Err(_) => Status::WriteFault,
+    }
+}
+
+/// Answers `upgrade`.
+fn answer_upgrade<I: Source, O: Sink, G: Sink>(
+    alloc: Global,
+    image: &mut I,
+    out: &mut O,
+    image_out: &mut G,
+) -> Status
+    ensures says { SaysUpgrade (input (I.left image.old) (I.left image.new) (I.faults image.old) (I.faults image.new))
+        (output (O.written out.old) (O.written out.new) (O.faults out.old) (O.faults out.new))
+        (output (G.written image_out.old) (G.written image_out.new) (G.faults image_out.old) (G.faults image_out.new)) result }
+    ensures no_more { TakesNoMore true (I.left image.old) (I.left image.new) }
+{
+    let (head, cells) = match read_image(ImageReader::old(alloc), image) {
+        Ok(read) => read,
+        Err(ImageReadError::Fault) => return Status::ReadFault,
+        Err(ImageReadError::Refused(why)) => return refuse_image(out, why),
+    };
+    match give_image(&head, &cells, image_out) {
+        Ok(()) => Status::Done,
+        Err(_) => Status::WriteFault,
+    }
+}
+
+/// Answers words, and says how it ended.
+fn answer<I: Source, T: Source, O: Sink, G: Sink>(
+    alloc: Global,
+    words: &[String],
+    image: &mut I,
+    script: &mut T,
+    out: &mut O,
+    image_out: &mut G,
+) -> Status
+    ensures says { Says (record {
+      words = map string_bytes words.now;
+      image = input (I.left image.old) (I.left image.new) (I.faults image.old) (I.faults image.new);
+      script = input (T.left script.old) (T.left script.new) (T.faults script.old) (T.faults script.new);
+      out = output (O.written out.old) (O.written out.new) (O.faults out.old) (O.faults out.new);
+      image_out = output (G.written image_out.old) (G.written image_out.new) (G.faults image_out.old) (G.faults image_out.new);
+    }) result }
+    ensures script { ReadNoScript (map string_bytes words.now) → script.new ≡ script.old }
+    ensures image { ReadNoImage (map string_bytes words.now) → image.new ≡ image.old }
+    ensures image_out { WriteNoImage (map string_bytes words.now) → image_out.new ≡ image_out.old }
+{
+    match read_words(words) {
+        Some(Command::Replay(head)) => answer_replay(alloc, &head, script, out),
+        Some(Command::Run) => answer_run(alloc, image, script, out, image_out),
+        Some(Command::Format(head)) => answer_format(alloc, &head, image_out),
+        Some(Command::Upgrade) => answer_upgrade(alloc, image, out, image_out),
+        _ => {
+            refuse(out, b"bad words\n");
+            Status::BadWords
+        }
+    }
+}
+
+/// Answers words. They do not include the program's name.
 ///
-/// `replay SCHEME BLOCKS PAGES SECTORS REUSE` reads the script to its end, mounts a blank die, and gives the reply to each line
-/// with its line feed to `out` in one piece. The other commands are not known yet: their words are bad. `image` and `image_out`
-/// stay as they are.
+/// - `replay SCHEME BLOCKS PAGES SECTORS REUSE` reads the script to its end, mounts a blank die, and gives the reply to each
+///   line with its line feed to `out` in one piece.
+/// - `run` reads the script and then the image, mounts a die of its cells, gives the replies, and then gives the image of the
+///   cells as they stand to `image_out`: the head in one piece, and each page in one.
+/// - `format SCHEME BLOCKS PAGES SECTORS REUSE` gives the image of a blank die to `image_out`.
+/// - `upgrade` reads an image of version 1, and gives the image of version 2 with the same head and cells to `image_out`.
 ///
-/// The status is 0 where all output was given; 2 where the words are no command; 3 where the script is refused; 5 where a
-/// source failed; 6 where a sink failed; 7 for want of memory. Before 2 and 3 one line says so.
-pub fn rssd<R: Replaying, I: Source, T: Source, O: Sink, G: Sink>(
+/// The other commands are not known yet: their words are bad. A source that the command does not read, and a sink that it does
+/// not write, are as before the call.
+///
+/// The status is 0 where all input was read to its end and all output was given; 2 where the words are no command; 3 where the
+/// script is refused; 4 where the image is, or each of its blocks has a live record; 5 where a source failed; 6 where a sink
+/// failed; 7 for want of memory. Before 2, 3 and 4 one line to `out` says so.
+pub fn rssd<I: Source, T: Source, O: Sink, G: Sink>(
     alloc: Global,
     words: &[String],
     image: &mut I,
@@ -84,17 +175,14 @@ pub fn rssd<R: Replaying, I: Source, T: Source, O: Sink, G: Sink>(
 ) -> u8
     ensures status { let call : Call = record {
       words = map string_bytes words.now;
-      text = T.left script.old;
-      text_left = T.left script.new;
-      script_faults = T.faults script.old;
-      script_faults_after = T.faults script.new;
-      written = O.written out.old;
-      written_after = O.written out.new;
-      out_faults = O.faults out.old;
-      out_faults_after = O.faults out.new;
-    } in (status : How) × (result ≡ number_of status) × Says call status × IsComplete call status }
-    ensures same_image { image.new ≡ image.old }
-    ensures same_image_out { image_out.new ≡ image_out.old }
+      image = input (I.left image.old) (I.left image.new) (I.faults image.old) (I.faults image.new);
+      script = input (T.left script.old) (T.left script.new) (T.faults script.old) (T.faults script.new);
+      out = output (O.written out.old) (O.written out.new) (O.faults out.old) (O.faults out.new);
+      image_out = output (G.written image_out.old) (G.written image_out.new) (G.faults image_out.old) (G.faults image_out.new);
+    } in (status : How) × (result ≡ number_of status) × Says call status }
+    ensures same_script { ReadNoScript (map string_bytes words.now) → script.new ≡ script.old }
+    ensures same_image { ReadNoImage (map string_bytes words.now) → image.new ≡ image.old }
+    ensures same_image_out { WriteNoImage (map string_bytes words.now) → image_out.new ≡ image_out.old }
 {
-    answer::<R, T, O>(alloc, words, script, out) as u8
+    answer(alloc, words, image, script, out, image_out) as u8
 }

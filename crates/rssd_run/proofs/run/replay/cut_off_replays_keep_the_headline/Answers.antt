@@ -1,6 +1,6 @@
 -- A replay whose output ends early is a run too.
 use Rattle.std.proofs.Common.{[], ◌∷◌, ◌++◌}
-use Rattle.rssd_run.specs.Replays.{numbers_named}
+use Rattle.rssd_run.specs.Heads.{numbers_named}
 use Rattle.rssd_run.proofs.Headline.{runs_keep_headline}
 use Rattle.rssd_run.proofs.run.replay.cut_off_replays_keep_the_headline.Goals as goal
 

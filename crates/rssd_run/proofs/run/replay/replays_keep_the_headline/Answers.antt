@@ -1,5 +1,5 @@
 -- A replay is a run.
-use Rattle.rssd_run.specs.Replays.{numbers_named}
+use Rattle.rssd_run.specs.Heads.{numbers_named}
 use Rattle.rssd_run.proofs.Headline.{runs_keep_headline}
 use Rattle.rssd_run.proofs.run.replay.replays_keep_the_headline.Goals as goal
 

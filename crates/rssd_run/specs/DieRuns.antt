@@ -1,0 +1,63 @@
+-- A run of lines on a die that is mounted first.
+use Rattle.std.specs.Prelude.{◌≡◌, ℕ, List, Option}
+use Rattle.cell_die.specs.DieState.{DieState}
+use Rattle.cell_die.specs.Calls.{IsQuiet}
+use Rattle.page_codec.specs.Sectors.{stored}
+use Rattle.die_image.specs.declared.head.ImageHead.{ImageHead}
+use Rattle.die_image.specs.Image.{shape_of}
+use Rattle.rssd_core.specs.DeviceValue.{Numbers, DeviceValue}
+use Rattle.rssd_core.specs.Mount.{Mounts}
+use Rattle.rssd_script.specs.declared.lines.Line.{Line}
+use Rattle.rssd_run.specs.ArrayWithCuts.{On}
+use Rattle.rssd_run.specs.View.{View}
+use Rattle.rssd_run.specs.Run.{RunOf, RunCutOff, CalmFor}
+use Rattle.rssd_run.specs.Shows.{SessionValue, Shows, HasNumbers}
+use Rattle.rssd_run.specs.Heads.{numbers_named}
+
+-- a die of the head's shape, with power and nothing armed
+pub record IsReady (head : ImageHead) (die : DieState) : Type 0 where
+  pub shape : die.shape ≡ shape_of head
+  pub quiet : IsQuiet die
+
+-- the sectors that the cells of a head's die stand for
+abbrev pub sectors_on : ImageHead → DieState → List (List ℕ)
+sectors_on head die = stored (numbers_named head).geometry (numbers_named head).meaning.decoding die.cells
+
+-- The first view of a run: a device was mounted on this die, and the array's rows are the sectors that its cells stand for.
+pub record IsStart (head : ImageHead) (die : DieState) (view : View) : Type 0 where
+  pub device : DeviceValue
+  pub mounts : Mounts (numbers_named head) die device
+  pub same : view.device ≡ device.view
+  pub rows : view.array ≡ On (sectors_on head die)
+
+-- a session that stands for such a view
+pub record StartsOn (head : ImageHead) (die : DieState) (session : SessionValue) : Type 0 where
+  pub view : View
+  pub start : IsStart head die view
+  pub shows : Shows (numbers_named head) session view
+  pub numbers : HasNumbers (numbers_named head) session.holding
+
+-- a run of these lines from a view to one with this die, and the texts of its replies were given
+pub record RunsTo (d : Numbers) (before : View) (lines : List Line) (written written_after : Option (List ℕ)) (last : DieState) : Type 0 where
+  pub after : View
+  pub die : after.device.die ≡ last
+  pub run : RunOf d before lines after written written_after
+
+-- The lines were run on a die that was mounted first, and this die was left: over sound cells, or where no line is `cut`, that
+-- is a run of them.
+pub record RunsOn (head : ImageHead) (die : DieState) (lines : List Line) (written written_after : Option (List ℕ)) (last : DieState) : Type 0 where
+  pub shape : last.shape ≡ shape_of head
+  pub before : View
+  pub start : IsStart head die before
+  pub run : CalmFor (numbers_named head) die lines → RunsTo (numbers_named head) before lines written written_after last
+
+-- a run of the first lines from a view, and the texts of its replies were given, but of the last one's a front only
+pub record RunsInPart (d : Numbers) (before : View) (lines : List Line) (written written_after : Option (List ℕ)) : Type 0 where
+  pub after : View
+  pub run : RunCutOff d before lines after written written_after
+
+-- the same of the first lines, up to the one whose reply was not given whole
+pub record RunsFrontOn (head : ImageHead) (die : DieState) (lines : List Line) (written written_after : Option (List ℕ)) : Type 0 where
+  pub before : View
+  pub start : IsStart head die before
+  pub run : CalmFor (numbers_named head) die lines → RunsInPart (numbers_named head) before lines written written_after
