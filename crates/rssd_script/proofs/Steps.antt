@@ -43,3 +43,7 @@ module _ (text so_far left piece : List ℕ) (old : List Line) (rest : List ℕ)
   pub end_piece : (b : Bool) (begun : List ℕ) → Lacks 10 left → (b ≡ true → begun ≡ rest ++ left) → (b ≡ false → 1048 < length (rest ++ left)) → MatchBool b (Whole (text ++ piece) old begun) (Broken (text ++ piece) (length old + 1))
   end_piece true begun l is long = rw (← s, is refl) (whole_more so_far old rest w left l)
   end_piece false begun l is long = λ more. rw (← s) (broken_long so_far old rest w left l (long refl) more)
+
+-- what is added to an empty text is the text
+pub put_first : (old new added : List ℕ) → old ≡ [] → new ≡ old ++ added → new ≡ added
+put_first old new added e f = f ∙ ap (λ t. t ++ added) e

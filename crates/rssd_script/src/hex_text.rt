@@ -1,21 +1,52 @@
 //! Bytes as hexadecimal digits in lower case, the higher digit of each byte first.
 
-ghost use Rattle.std.specs.Prelude.{◌≡◌, ℕ, ◌*◌, ◌^◌, ◌<◌, List, length, IfSome, IfNone, IfOk, MatchBool};
+ghost use Rattle.std.specs.Prelude.{◌≡◌, ℕ, ◌*◌, ◌^◌, ◌<◌, true, List, length, IfSome, IfNone, IfOk, MatchBool};
 ghost use Rattle.std.specs.List.{list_all};
 ghost use Rattle.std.specs.Int.{w64, to_be_bytes};
-ghost use Rattle.rssd_script.specs.Text.{hex_of, is_lower_digit, AreBytes};
+ghost use Rattle.rssd_script.specs.Text.{hex_digit, hex_of, is_lower_digit, AreBytes};
 ghost use Rattle.rssd_script.specs.Reading.{ReadsHex};
 
 use crate::grammar::is_word;
 use crate::{OutOfMemory, SectorBytes};
 use std::alloc::Global;
 
-/// Whether each byte is a digit of HEX. `hex` would take the letters `A` to `F` too.
+/// Whether the byte is a digit of HEX.
+fn is_digit(byte: u8) -> bool
+    ensures { result ≡ is_lower_digit byte }
+{
+    matches!(byte, b'0'..=b'9' | b'a'..=b'f')
+}
+
+/// Whether each byte is a digit of HEX. It goes over all bytes with no exit on the way.
 fn is_lower(text: &[u8]) -> bool
     ensures { result ≡ list_all is_lower_digit text.now }
 {
-    text.iter()
-        .all(|byte| matches!(*byte, b'0'..=b'9' | b'a'..=b'f'))
+    let mut all = true;
+    for byte in text {
+        all &= is_digit(*byte);
+    }
+    all
+}
+
+/// What a digit of HEX stands for.
+fn value_of(digit: u8) -> u8
+    requires { is_lower_digit digit ≡ true }
+    ensures small { result < 16 }
+    ensures value { hex_digit result ≡ digit }
+{
+    digit % 16 + 9 * (digit / 64)
+}
+
+/// Writes the bytes that the digits stand for.
+fn write_bytes(digits: &[u8], bytes: &mut [u8])
+    requires pairs { length digits.now ≡ 2 * length bytes.old }
+    requires digits { list_all is_lower_digit digits.now ≡ true }
+    ensures bytes { AreBytes bytes.new }
+    ensures digits { digits.now ≡ hex_of bytes.new }
+{
+    for i in 0..bytes.len() {
+        bytes[i] = value_of(digits[2 * i]) * 16 + value_of(digits[2 * i + 1]);
+    }
 }
 
 /// Whether the text is the digits of bytes, which are then written to `bytes`.
@@ -26,7 +57,8 @@ pub fn read_hex(text: &[u8], bytes: &mut [u8]) -> bool
     if !is_lower(text) {
         return false;
     }
-    hex::decode_to_slice(text, bytes).is_ok()
+    write_bytes(text, bytes);
+    true
 }
 
 /// HEX, at most 512 bytes.

@@ -75,52 +75,41 @@ fn put_torn(text: &mut TextRoom, torn: TornWord)
     }
 }
 
-/// A word.
-fn word(bytes: &[u8]) -> TextRoom
-    requires { length bytes.now ≤ 20 }
-    ensures { result.items ≡ bytes.now }
+/// Adds a word and a number to a text that is empty.
+fn put_numbered(text: &mut TextRoom, word: &[u8], n: u32)
+    requires empty { text.old.items ≡ [] }
+    requires word { length word.now ≤ 20 }
+    ensures items { text.new.items ≡ word.now ++ decimal n }
+    ensures len { length text.new.items ≤ 40 }
 {
-    let mut text = ArrayVec::new();
-    put(&mut text, bytes);
-    text
+    put(text, word);
+    put_number(text, u64::from(n));
 }
 
-/// A word and a number.
-fn numbered(bytes: &[u8], n: u32) -> TextRoom
-    requires { length bytes.now ≤ 20 }
-    ensures items { result.items ≡ bytes.now ++ decimal n }
-    ensures len { length result.items ≤ 40 }
-{
-    let mut text = word(bytes);
-    put_number(&mut text, u64::from(n));
-    text
-}
-
-/// A line's text without its line feed.
-fn line_body(line: &Line) -> TextRoom
-    requires { IsWithinGrammar line.now }
-    ensures items { result.items ≡ line_text line.now }
-    ensures len { length result.items ≤ 1080 }
+/// Writes a line's text without its line feed into empty room.
+fn put_line(text: &mut TextRoom, line: &Line)
+    requires line { IsWithinGrammar line.now }
+    requires empty { text.old.items ≡ [] }
+    ensures items { text.new.items ≡ line_text line.now }
+    ensures len { length text.new.items ≤ 1080 }
 {
     match line {
         Line::Write { sector, bytes } => {
-            let mut line = numbered(b"write ", *sector);
-            put(&mut line, b" ");
-            put_hex_or_dash(&mut line, bytes.as_slice());
-            line
+            put_numbered(text, b"write ", *sector);
+            put(text, b" ");
+            put_hex_or_dash(text, bytes.as_slice());
         }
-        Line::Read { sector } => numbered(b"read ", *sector),
-        Line::Trim { sector } => numbered(b"trim ", *sector),
-        Line::Idle { n } => numbered(b"idle ", *n),
+        Line::Read { sector } => put_numbered(text, b"read ", *sector),
+        Line::Trim { sector } => put_numbered(text, b"trim ", *sector),
+        Line::Idle { n } => put_numbered(text, b"idle ", *n),
         Line::Cut { n, torn } => {
-            let mut text = numbered(b"cut ", *n);
-            put(&mut text, b" ");
-            put_torn(&mut text, *torn);
-            text
+            put_numbered(text, b"cut ", *n);
+            put(text, b" ");
+            put_torn(text, *torn);
         }
-        Line::FailRead { n } => numbered(b"failread ", *n),
-        Line::Mount => word(b"mount"),
-        Line::Stat => word(b"stat"),
+        Line::FailRead { n } => put_numbered(text, b"failread ", *n),
+        Line::Mount => put(text, b"mount"),
+        Line::Stat => put(text, b"stat"),
     }
 }
 
@@ -129,59 +118,57 @@ pub fn print_line(alloc: Global, line: &Line) -> Result<Vec<u8>, OutOfMemory>
     requires { IsWithinGrammar line.now }
     ensures { IfOk result (λ text. text.items ≡ line_text line.now ++ 10 ∷ []) }
 {
-    let mut text = line_body(line);
+    let mut text = ArrayVec::new();
+    put_line(&mut text, line);
     put(&mut text, b"\n");
     Vec::from_slice(alloc, text.as_slice())
 }
 
-/// The counts of `stat`.
-fn counts(first: u64, second: u64, declined: u64, moved: u64, erased: u64) -> TextRoom
-    ensures items { result.items ≡ reply_text (Reply.Stat first second declined moved erased) }
-    ensures len { length result.items ≤ 1080 }
+/// Writes the counts of `stat` into empty room.
+fn put_counts(text: &mut TextRoom, first: u64, second: u64, declined: u64, moved: u64, erased: u64)
+    requires { text.old.items ≡ [] }
+    ensures items { text.new.items ≡ reply_text (Reply.Stat first second declined moved erased) }
+    ensures len { length text.new.items ≤ 1080 }
 {
-    let mut text = word(b"first ");
-    put_number(&mut text, first);
-    put(&mut text, b" second ");
-    put_number(&mut text, second);
-    put(&mut text, b" declined ");
-    put_number(&mut text, declined);
-    put(&mut text, b" moved ");
-    put_number(&mut text, moved);
-    put(&mut text, b" erased ");
-    put_number(&mut text, erased);
-    text
+    put(text, b"first ");
+    put_number(text, first);
+    put(text, b" second ");
+    put_number(text, second);
+    put(text, b" declined ");
+    put_number(text, declined);
+    put(text, b" moved ");
+    put_number(text, moved);
+    put(text, b" erased ");
+    put_number(text, erased);
 }
 
-/// A reply's text without its line feed.
-fn reply_body(reply: &Reply) -> TextRoom
-    ensures items { result.items ≡ reply_text reply.now }
-    ensures len { length result.items ≤ 1080 }
+/// Writes a reply's text without its line feed into empty room.
+fn put_reply(text: &mut TextRoom, reply: &Reply)
+    requires { text.old.items ≡ [] }
+    ensures items { text.new.items ≡ reply_text reply.now }
+    ensures len { length text.new.items ≤ 1080 }
 {
     match reply {
-        Reply::First => word(b"first"),
-        Reply::Second => word(b"second"),
-        Reply::Declined => word(b"declined"),
-        Reply::Bytes(bytes) => {
-            let mut text = ArrayVec::new();
-            put_hex_or_dash(&mut text, bytes.as_slice());
-            text
-        }
-        Reply::Done => word(b"ok"),
-        Reply::Moves(n) => numbered(b"", *n),
+        Reply::First => put(text, b"first"),
+        Reply::Second => put(text, b"second"),
+        Reply::Declined => put(text, b"declined"),
+        Reply::Bytes(bytes) => put_hex_or_dash(text, bytes.as_slice()),
+        Reply::Done => put(text, b"ok"),
+        Reply::Moves(n) => put_numbered(text, b"", *n),
         Reply::Stat {
             first,
             second,
             declined,
             moved,
             erased,
-        } => counts(*first, *second, *declined, *moved, *erased),
-        Reply::Range => word(b"range"),
-        Reply::Long => word(b"long"),
-        Reply::Off => word(b"off"),
-        Reply::Fault => word(b"fault"),
-        Reply::Spent => word(b"spent"),
-        Reply::NoSpare => word(b"no spare"),
-        Reply::NoMemory => word(b"no memory"),
+        } => put_counts(text, *first, *second, *declined, *moved, *erased),
+        Reply::Range => put(text, b"range"),
+        Reply::Long => put(text, b"long"),
+        Reply::Off => put(text, b"off"),
+        Reply::Fault => put(text, b"fault"),
+        Reply::Spent => put(text, b"spent"),
+        Reply::NoSpare => put(text, b"no spare"),
+        Reply::NoMemory => put(text, b"no memory"),
     }
 }
 
@@ -189,7 +176,8 @@ fn reply_body(reply: &Reply) -> TextRoom
 pub fn print_reply(reply: &Reply) -> ReplyText
     ensures { result ≡ reply_line reply.now }
 {
-    let mut text = reply_body(reply);
+    let mut text = ArrayVec::new();
+    put_reply(&mut text, reply);
     put(&mut text, b"\n");
     ReplyText::from_bytes(text)
 }
