@@ -1,6 +1,6 @@
 -- Where nothing is armed and no line arms anything, no reply is `fault` or `no spare`, and the array stays on while memory lasts.
 use Rattle.std.proofs.Common.{◌≡◌, ◌⊎◌, inl, inr, ℕ, ◌<◌, true, false, All, IsTrue, List, [], ◌∷◌, length, slice_index_or, Option, refl, sym, ap, ◌∙◌, arith, subst}
-use Rattle.std.proofs.lemmas.Bool.{cases_lt}
+use Rattle.std.proofs.lemmas.Bool.{cases_lt, false≢true}
 use Rattle.std.proofs.lemmas.List.{get_or_past}
 use Rattle.rssd_core.specs.SectorArray.{written, trimmed}
 use Rattle.std.specs.List.{AllByRecursion}
@@ -134,16 +134,16 @@ not_both (Off old new) on off = on
 
 spare_is_free : (g : Geometry) (cells : List (List ℕ)) (block : ℕ) (state : State) → IsTrue (is_spare state) → IsTrueState g cells block state → live_count g cells block ≡ 0
 spare_is_free g cells block (Spare blank) is free = free.free
-spare_is_free g cells block Clean is free = absurd is
-spare_is_free g cells block (Active fill) is free = absurd is
-spare_is_free g cells block (Used level) is free = absurd is
-spare_is_free g cells block (Recycled level next) is free = absurd is
-spare_is_free g cells block Reused is free = absurd is
+spare_is_free g cells block Clean is free = absurd (false≢true is)
+spare_is_free g cells block (Active fill) is free = absurd (false≢true is)
+spare_is_free g cells block (Used level) is free = absurd (false≢true is)
+spare_is_free g cells block (Recycled level next) is free = absurd (false≢true is)
+spare_is_free g cells block Reused is free = absurd (false≢true is)
 
 spare_within : (book : BookValue) (block : ℕ) → IsSpare book block → block < length book.states
 spare_within book block is = elim (cases_lt block (length book.states)) [
   | inl within ↦ within
-  | inr past ↦ absurd (subst (λ (state : State). IsTrue (is_spare state)) (get_or_past book.states block Clean past) is)
+  | inr past ↦ absurd (false≢true (subst (λ (state : State). IsTrue (is_spare state)) (get_or_past book.states block Clean past) is))
 ]
 
 -- a true book has a Spare block
@@ -197,7 +197,7 @@ on_or_refused size (Off old new) line reply next command row good = inr (refused
 step_free : (d : Numbers) (e : Event) → IsStep d e → IsUnarmed d e.before → HasFree d.geometry e.after.device.die.cells
 step_free d e step unarmed =
     let same : IsRefusal e.reply ⊎ (IsCommand e.line → ⊥) → HasFree d.geometry e.after.device.die.cells =
-        λ stays. subst (HasFree d.geometry) (sym (step.answers.stays stays).cells) unarmed.free in
+    λ stays. subst (HasFree d.geometry) (sym (step.answers.stays stays).cells) unarmed.free in
     elim (is_command e.line) [
       | inr other ↦ same (inr other)
       | inl command ↦ elim (on_or_refused d.geometry.sector_bytes e.before.array e.line e.reply e.after.array command step.row (step_fails d e step unarmed).no_fault) [

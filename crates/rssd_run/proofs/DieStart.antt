@@ -1,12 +1,12 @@
 -- A mount of a die of a head is refused only for want of memory or of a spare block, and leaves a session that stands for the sectors of its cells.
-use Rattle.std.proofs.Common.{◌≡◌, ◌⊎◌, inl, inr, ℕ, ◌+◌, ◌-◌, ◌*◌, ◌^◌, ◌<◌, min, Bool, true, false, List, Option, None, Some, IsSomeAnd, refl, sym, ap, ◌∙◌, arith, subst}
-use Rattle.std.specs.Prelude.{All}
-use Rattle.cell_die.specs.DieState.{DieState, Failures}
+use Rattle.std.proofs.Common.{◌≡◌, ◌≢◌, ◌⊎◌, inl, inr, ℕ, ◌+◌, ◌-◌, ◌*◌, ◌^◌, ◌<◌, min, Bool, true, false, List, length, Option, None, Some, IsSomeAnd, refl, sym, ap, ◌∙◌, arith, subst}
+use Rattle.cell_die.specs.DieState.{DieState, Failures, page_count, page_bytes}
 use Rattle.cell_die.specs.declared.shape.Shape.{Shape}
 use Rattle.cell_die.specs.Calls.{IsQuiet, WhilePowered, Nearer, ReadFailureCame}
 use Rattle.striped.specs.Meaning.{Meaning}
 use Rattle.die_image.specs.declared.head.ImageHead.{ImageHead}
-use Rattle.die_image.specs.Image.{is_within_limits, shape_of}
+use Rattle.die_image.specs.Image.{is_within_limits, shape_of, die_bytes}
+use Rattle.mem_die.specs.Limits.{IsWithinLimits as FitsDie}
 use Rattle.page_codec.specs.Geometry.{shape_of as geometry_shape}
 use Rattle.page_codec.specs.Sectors.{stored}
 use Rattle.page_codec.specs.Sound.{IsSound}
@@ -32,6 +32,15 @@ pub record IsGiven (head : ImageHead) (meaning : Meaning) (die : DieState) : Typ
   pub within : is_within_limits head ≡ true
   pub meaning_is : meaning ≡ meaning_named head.scheme
   pub ready : IsReady head die
+
+-- the cells of an image are those of its head's die, which a die in memory may be
+pub never_misshaped : (head : ImageHead) (shape : Shape) (cells : List ℕ) → shape ≡ shape_of head → FitsDie (shape_of head) → length cells ≡ die_bytes head
+    → (¬ FitsDie shape) ⊎ (length cells ≢ page_count shape * page_bytes shape) → ⊥
+unfolding die_bytes
+never_misshaped head shape cells same fits whole bad = elim bad [
+  | inl limits ↦ limits (subst FitsDie (sym same) fits)
+  | inr other ↦ other (whole ∙ ap (λ (s : Shape). page_count s * page_bytes s) (sym same))
+]
 
 -- ---- what is refused
 
@@ -62,14 +71,6 @@ module _ (head : ImageHead) (meaning : Meaning) (die : DieState) (given : IsGive
       elim (refused_so new why shape (subst (λ (d : Numbers). Refuses d die new why) numbers_same refuses)) [
         | inl memory ↦ elim is [ inl bad_shape ↦ cc | inr fault ↦ cc ]
         | inr full ↦ (let spare : why ≡ NoSpare = full.0 in elim is [ inl bad_shape ↦ cc | inr fault ↦ cc ])
-      ]
-
-  pub full_where_no_spare : (new : DieState) (why : MountError) → (why ≡ BadShape → ¬ Fits die.shape meaning (plan_of head)) → Refuses (numbers_of die.shape meaning (plan_of head)) die new why
-      → why ≡ NoSpare → EveryBlockLive (numbers_named head).geometry die
-  full_where_no_spare new why shape refuses is =
-      elim (refused_so new why shape (subst (λ (d : Numbers). Refuses d die new why) numbers_same refuses)) [
-        | inl memory ↦ cc
-        | inr full ↦ full.1
       ]
 
 -- ---- what is mounted

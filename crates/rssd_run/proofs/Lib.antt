@@ -24,5 +24,6 @@ pub mod BlankStart
 pub mod Calm
 pub mod Headline
 pub mod Spending
+pub mod ImageRuns
 pub mod Completeness
 pub mod Rows

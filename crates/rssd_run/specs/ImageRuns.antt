@@ -1,6 +1,5 @@
 -- A run of lines on the die of an image.
 use Rattle.std.specs.Prelude.{◌≡◌, ◌*◌, ℕ, List, Option, length}
-use Rattle.cell_die.specs.declared.shape.Shape.{Shape}
 use Rattle.cell_die.specs.DieState.{DieState, page_count, page_bytes}
 use Rattle.mem_die.specs.MemState.{IsMade}
 use Rattle.mem_die.specs.Pages.{pages_of}
@@ -11,11 +10,10 @@ use Rattle.rssd_script.specs.declared.lines.Line.{Line}
 use Rattle.rssd_run.specs.Heads.{numbers_named}
 use Rattle.rssd_run.specs.DieRuns.{RunsOn, RunsFrontOn}
 
--- these bytes are the cells of a die of this shape, page after page
-pub record HasCells (shape : Shape) (bytes : List ℕ) (die : DieState) : Type 0 where
-  pub same_shape : die.shape ≡ shape
-  pub whole : length bytes ≡ page_count shape * page_bytes shape
-  pub cells : die.cells ≡ pages_of (page_bytes shape) (page_count shape) bytes
+-- these bytes are the cells of the die, page after page
+pub record HasCells (bytes : List ℕ) (die : DieState) : Type 0 where
+  pub whole : length bytes ≡ page_count die.shape * page_bytes die.shape
+  pub cells : die.cells ≡ pages_of (page_bytes die.shape) (page_count die.shape) bytes
 
 -- the lines were run on a new die of these cells, and left a die
 pub record RunsImage (head : ImageHead) (cells : List ℕ) (lines : List Line) (written written_after : Option (List ℕ)) (last : DieState) : Type 0 where

@@ -78,7 +78,7 @@ pub record AllRun (out : Output) (text bytes : List ℕ) : Type 0 where
   pub last : DieState
   pub runs : RunsImage head cells lines out.written out.written_after last
   pub left : List ℕ
-  pub last_cells : HasCells (shape_of head) left last
+  pub last_cells : HasCells left last
 
 -- and `image_out` took the image of those cells
 pub record IsRun (image script : Input) (out image_out : Output) (text bytes : List ℕ) : Type 0 where
@@ -237,11 +237,22 @@ pub record Says (call : Call) (status : Status) : Type 0 where
 
 -- ---- sources that are not read, and sinks that are not written
 
-abbrev pub ReadNoScript : List (List ℕ) → Type 0
-ReadNoScript words = ((head : ImageHead) → Spells words (Replay head) → ⊥) × (Spells words Run → ⊥)
+abbrev pub LeavesScript : Command → Type 0
+LeavesScript (Replay head) = ⊥
+LeavesScript Run = ⊥
+LeavesScript command = Unit {0}
 
-abbrev pub ReadNoImage : List (List ℕ) → Type 0
-ReadNoImage words = (Spells words Run → ⊥) × (Spells words Upgrade → ⊥)
+abbrev pub LeavesImage : Command → Type 0
+LeavesImage Run = ⊥
+LeavesImage Upgrade = ⊥
+LeavesImage command = Unit {0}
 
-abbrev pub WriteNoImage : List (List ℕ) → Type 0
-WriteNoImage words = ReadNoImage words × ((head : ImageHead) → Spells words (Format head) → ⊥)
+abbrev pub LeavesImageOut : Command → Type 0
+LeavesImageOut Run = ⊥
+LeavesImageOut (Format head) = ⊥
+LeavesImageOut Upgrade = ⊥
+LeavesImageOut command = Unit {0}
+
+-- this holds of each command that the words spell
+abbrev pub OfSpelled : (Command → Type 0) → List (List ℕ) → Type 0
+OfSpelled P words = (command : Command) → Spells words command → P command

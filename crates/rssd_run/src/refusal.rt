@@ -1,6 +1,6 @@
 //! The lines of refusal: what `out` is told before a status that refuses words, a script or an image.
 ghost use Rattle.std.specs.Prelude.{◌≡◌};
-ghost use Rattle.rssd_run.specs.Statuses.{TookLine, RefusesSo, RefusesImageSo, bad_line};
+ghost use Rattle.rssd_run.specs.Statuses.{TookLine, RefusesSo, RefusesImageSo, bad_line, bad_words};
 
 use crate::status::Status;
 use arrayvec::ArrayVec;
@@ -26,6 +26,15 @@ pub fn refuse<O: Sink>(out: &mut O, line: &[u8])
     ensures { TookLine (O.written out.old) (O.written out.new) (O.faults out.old) (O.faults out.new) line.now }
 {
     let _ = out.give(line);
+}
+
+/// Refuses words.
+pub fn refuse_words<O: Sink>(out: &mut O) -> Status
+    ensures status { result ≡ Status.BadWords }
+    ensures line { TookLine (O.written out.old) (O.written out.new) (O.faults out.old) (O.faults out.new) bad_words }
+{
+    refuse(out, b"bad words\n");
+    Status::BadWords
 }
 
 /// Refuses a script.

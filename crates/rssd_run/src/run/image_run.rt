@@ -1,10 +1,10 @@
 //! A run on an image: the lines of a script are run on a die of the image's cells that is mounted first.
-ghost use Rattle.std.specs.Prelude.{◌≡◌, ℕ, List, Option, false, IfOk, IsErrOf};
+ghost use Rattle.std.specs.Prelude.{◌≡◌, ℕ, List, Option, true, false, replicate, IfOk, IsErrOf};
 ghost use Rattle.std.specs.List.{All};
 ghost use Rattle.cell_die.specs.Calls.{IsQuiet};
 ghost use Rattle.cell_die.specs.DieState.{DieState};
 ghost use Rattle.die_image.specs.declared.head.ImageHead.{ImageHead as Head};
-ghost use Rattle.die_image.specs.Image.{shape_of, AreCells};
+ghost use Rattle.die_image.specs.Image.{die_bytes, is_within_limits, shape_of, AreCells};
 ghost use Rattle.mem_die.specs.MemState.{mem_state, IsMade};
 ghost use Rattle.rssd_io.specs.Faults.{Rose};
 ghost use Rattle.rssd_script.specs.declared.lines.Line.{Line as Spelled};
@@ -13,7 +13,7 @@ ghost use Rattle.rssd_run.specs.DieRuns.{RunsOn};
 ghost use Rattle.rssd_run.specs.Headline.{AllKeepHeadline, ChargeNeverFalls};
 ghost use Rattle.rssd_run.specs.Heads.{numbers_named};
 ghost use Rattle.rssd_run.specs.Run.{CalmFor};
-ghost use Rattle.rssd_run.specs.ImageRuns.{IsFull, RunsImage, RunsImageFront};
+ghost use Rattle.rssd_run.specs.ImageRuns.{HasCells, IsFull, RunsImage, RunsImageFront};
 ghost use Rattle.rssd_run.specs.Shows.{CanStep};
 
 use crate::run::on_die::{RunError, die_shape, run_on};
@@ -33,6 +33,24 @@ fn die_of(alloc: Global, head: &ImageHead, cells: Vec<u8>) -> Result<MemDie, Out
         Err(DieRefusal::OutOfMemory) => Err(AllocError),
         Err(DieRefusal::Shape) => unreachable!(),
     }
+}
+
+/// The cells of a die, page after page.
+pub fn cells_of(die: &MemDie) -> &[u8]
+    ensures { HasCells result.now (mem_state die.now) }
+{
+    die.cells()
+}
+
+/// The cells of a head's die, none of them charged.
+#[tactic(auto, unfolding(die_image::specs::Image::die_bytes))]
+pub fn blank_cells(alloc: Global, head: &ImageHead) -> Result<Vec<u8>, OutOfMemory>
+    requires { is_within_limits head.now ≡ true }
+    ensures { IfOk result (λ cells. cells.items ≡ replicate (die_bytes head.now) 0) }
+{
+    let shape = die_shape(head);
+    let bytes = shape.blocks * shape.pages * (shape.main_bytes + shape.spare_bytes);
+    vec![in alloc; 0; bytes as usize]
 }
 
 /// Runs lines on a die of an image's cells that is mounted first, and gives each reply with its line feed to `out` in one

@@ -21,15 +21,8 @@ use rssd_io::Sink;
 use rssd_script::Line;
 use std::alloc::{AllocError, Global};
 
-/// Why a replay did not give all replies.
-#[derive(Clone, Copy, Debug, PartialEq, Eq)]
-pub enum ReplayError {
-    OutOfMemory,
-    Sink,
-}
-
 /// A blank die of a head.
-pub fn blank_die(alloc: Global, head: &ImageHead) -> Result<MemDie, OutOfMemory>
+fn blank_die(alloc: Global, head: &ImageHead) -> Result<MemDie, OutOfMemory>
     requires { is_within_limits head.now ≡ true }
     ensures { IfOk result (λ die. IsNew (shape_of head.now) (mem_state die)) }
 {
@@ -44,29 +37,26 @@ pub fn blank_die(alloc: Global, head: &ImageHead) -> Result<MemDie, OutOfMemory>
 ///
 /// # Errors
 ///
-/// Want of memory, before anything is given; or a fault of the sink.
+/// Want of memory, before anything is given; or a fault of the sink. A blank die has a spare block.
 pub fn replay<O: Sink>(
     alloc: Global,
     head: &ImageHead,
     lines: &[Line],
     out: &mut O,
-) -> Result<(), ReplayError>
+) -> Result<(), RunError>
     requires within { is_within_limits head.now ≡ true }
     requires can_step { All CanStep lines.now }
     ensures done { OnOk result (Replays head.now lines.now (O.written out.old) (O.written out.new)) }
-    ensures front { IsErrOf result ReplayError.Sink → ReplaysFront head.now lines.now (O.written out.old) (O.written out.new) }
-    ensures fault { IsErrOf result ReplayError.Sink → Rose (O.faults out.old) (O.faults out.new) }
-    ensures memory { IsErrOf result ReplayError.OutOfMemory → out.new ≡ out.old }
+    ensures front { IsErrOf result RunError.Sink → ReplaysFront head.now lines.now (O.written out.old) (O.written out.new) }
+    ensures fault { IsErrOf result RunError.Sink → Rose (O.faults out.old) (O.faults out.new) }
+    ensures spare { IsErrOf result RunError.NoSpare → ⊥ }
+    ensures memory { IsErrOf result RunError.OutOfMemory → out.new ≡ out.old }
 {
     let Ok(die) = blank_die(alloc, head) else {
-        return Err(ReplayError::OutOfMemory);
+        return Err(RunError::OutOfMemory);
     };
-    match run_on(alloc, head, die, lines, out) {
-        Ok(_) => Ok(()),
-        Err(RunError::OutOfMemory) => Err(ReplayError::OutOfMemory),
-        Err(RunError::Sink) => Err(ReplayError::Sink),
-        Err(RunError::NoSpare) => unreachable!(),
-    }
+    run_on(alloc, head, die, lines, out)?;
+    Ok(())
 }
 
 /// Each line of a replay keeps the headline: its reply is one of a plain sector array where only the write or trim under way at

@@ -1,17 +1,18 @@
 //! The top call: words and input to output and a status. It knows the commands `replay`, `run`, `format` and
 //! `upgrade`; any other words are bad.
-ghost use Rattle.std.specs.Prelude.{◌≡◌, map, string_bytes, true, false};
+ghost use Rattle.std.specs.Prelude.{◌≡◌, ℕ, List, map, string_bytes, true, false};
 ghost use Rattle.die_image.specs.Image.{is_within_limits};
 ghost use Rattle.rssd_run.specs.declared.status.Status.{Status as How};
 ghost use Rattle.rssd_run.specs.ReadImage.{TakesNoMore};
 ghost use Rattle.rssd_run.specs.Statuses.{Call, input, output, number_of};
-ghost use Rattle.rssd_run.specs.Top.{Says, SaysFormat, SaysReplay, SaysRun, SaysUpgrade, ReadNoImage, ReadNoScript, WriteNoImage};
+ghost use Rattle.rssd_run.specs.Top.{Says, SaysFormat, SaysOf, SaysReplay, SaysRun, SaysUpgrade, LeavesImage, LeavesImageOut, LeavesScript, OfSpelled};
+ghost use Rattle.rssd_words.specs.Commands.{IsWithin};
 
-use crate::refusal::{refuse, refuse_image, refuse_script};
+use crate::refusal::{refuse, refuse_image, refuse_script, refuse_words};
 use crate::run::image::{ImageReadError, give_image, read_image};
-use crate::run::image_run::run_image;
+use crate::run::image_run::{blank_cells, cells_of, run_image};
 use crate::run::on_die::RunError;
-use crate::run::replay::{ReplayError, blank_die, replay};
+use crate::run::replay::replay;
 use crate::run::script::{ReadError, read_script};
 use crate::status::Status;
 use die_image::{ImageHead, ImageReader};
@@ -37,8 +38,9 @@ fn answer_replay<T: Source, O: Sink>(
     };
     match replay(alloc, head, &lines, out) {
         Ok(()) => Status::Done,
-        Err(ReplayError::Sink) => Status::WriteFault,
-        Err(ReplayError::OutOfMemory) => Status::OutOfMemory,
+        Err(RunError::Sink) => Status::WriteFault,
+        Err(RunError::OutOfMemory) => Status::OutOfMemory,
+        Err(RunError::NoSpare) => unreachable!(),
     }
 }
 
@@ -75,7 +77,7 @@ fn answer_run<I: Source, T: Source, O: Sink, G: Sink>(
             return Status::BadImage;
         }
     };
-    match give_image(&head, die.cells(), image_out) {
+    match give_image(&head, cells_of(&die), image_out) {
         Ok(()) => Status::Done,
         Err(_) => Status::WriteFault,
     }
@@ -86,10 +88,10 @@ fn answer_format<G: Sink>(alloc: Global, head: &ImageHead, image_out: &mut G) ->
     requires { is_within_limits head.now ≡ true }
     ensures { SaysFormat head.now (output (G.written image_out.old) (G.written image_out.new) (G.faults image_out.old) (G.faults image_out.new)) result }
 {
-    let Ok(die) = blank_die(alloc, head) else {
+    let Ok(cells) = blank_cells(alloc, head) else {
         return Status::OutOfMemory;
     };
-    match give_image(head, die.cells(), image_out) {
+    match give_image(head, &cells, image_out) {
         Ok(()) => Status::Done,
         Err(_) => Status::WriteFault,
     }
@@ -118,6 +120,36 @@ fn answer_upgrade<I: Source, O: Sink, G: Sink>(
     }
 }
 
+/// Answers a command.
+fn answer_command<I: Source, T: Source, O: Sink, G: Sink>(
+    alloc: Global,
+    command: &Command,
+    image: &mut I,
+    script: &mut T,
+    out: &mut O,
+    image_out: &mut G,
+) -> Status
+    requires { IsWithin command.now }
+    ensures says { (words : List (List ℕ)) → SaysOf command.now (record {
+      words = words;
+      image = input (I.left image.old) (I.left image.new) (I.faults image.old) (I.faults image.new);
+      script = input (T.left script.old) (T.left script.new) (T.faults script.old) (T.faults script.new);
+      out = output (O.written out.old) (O.written out.new) (O.faults out.old) (O.faults out.new);
+      image_out = output (G.written image_out.old) (G.written image_out.new) (G.faults image_out.old) (G.faults image_out.new);
+    }) result }
+    ensures same_script { LeavesScript command.now → script.new ≡ script.old }
+    ensures same_image { LeavesImage command.now → image.new ≡ image.old }
+    ensures same_image_out { LeavesImageOut command.now → image_out.new ≡ image_out.old }
+{
+    match command {
+        Command::Replay(head) => answer_replay(alloc, head, script, out),
+        Command::Run => answer_run(alloc, image, script, out, image_out),
+        Command::Format(head) => answer_format(alloc, head, image_out),
+        Command::Upgrade => answer_upgrade(alloc, image, out, image_out),
+        _ => refuse_words(out),
+    }
+}
+
 /// Answers words, and says how it ended.
 fn answer<I: Source, T: Source, O: Sink, G: Sink>(
     alloc: Global,
@@ -134,19 +166,13 @@ fn answer<I: Source, T: Source, O: Sink, G: Sink>(
       out = output (O.written out.old) (O.written out.new) (O.faults out.old) (O.faults out.new);
       image_out = output (G.written image_out.old) (G.written image_out.new) (G.faults image_out.old) (G.faults image_out.new);
     }) result }
-    ensures script { ReadNoScript (map string_bytes words.now) → script.new ≡ script.old }
-    ensures image { ReadNoImage (map string_bytes words.now) → image.new ≡ image.old }
-    ensures image_out { WriteNoImage (map string_bytes words.now) → image_out.new ≡ image_out.old }
+    ensures same_script { OfSpelled LeavesScript (map string_bytes words.now) → script.new ≡ script.old }
+    ensures same_image { OfSpelled LeavesImage (map string_bytes words.now) → image.new ≡ image.old }
+    ensures same_image_out { OfSpelled LeavesImageOut (map string_bytes words.now) → image_out.new ≡ image_out.old }
 {
     match read_words(words) {
-        Some(Command::Replay(head)) => answer_replay(alloc, &head, script, out),
-        Some(Command::Run) => answer_run(alloc, image, script, out, image_out),
-        Some(Command::Format(head)) => answer_format(alloc, &head, image_out),
-        Some(Command::Upgrade) => answer_upgrade(alloc, image, out, image_out),
-        _ => {
-            refuse(out, b"bad words\n");
-            Status::BadWords
-        }
+        Some(command) => answer_command(alloc, &command, image, script, out, image_out),
+        None => refuse_words(out),
     }
 }
 
@@ -180,9 +206,9 @@ pub fn rssd<I: Source, T: Source, O: Sink, G: Sink>(
       out = output (O.written out.old) (O.written out.new) (O.faults out.old) (O.faults out.new);
       image_out = output (G.written image_out.old) (G.written image_out.new) (G.faults image_out.old) (G.faults image_out.new);
     } in (status : How) × (result ≡ number_of status) × Says call status }
-    ensures same_script { ReadNoScript (map string_bytes words.now) → script.new ≡ script.old }
-    ensures same_image { ReadNoImage (map string_bytes words.now) → image.new ≡ image.old }
-    ensures same_image_out { WriteNoImage (map string_bytes words.now) → image_out.new ≡ image_out.old }
+    ensures same_script { OfSpelled LeavesScript (map string_bytes words.now) → script.new ≡ script.old }
+    ensures same_image { OfSpelled LeavesImage (map string_bytes words.now) → image.new ≡ image.old }
+    ensures same_image_out { OfSpelled LeavesImageOut (map string_bytes words.now) → image_out.new ≡ image_out.old }
 {
     answer(alloc, words, image, script, out, image_out) as u8
 }
