@@ -32,8 +32,7 @@ returns-in-Err-NoSpare-clause-says g c =
     let out : Output = output (g.O.Sink.written c.args.out.now) (g.O.Sink.written c.refuse.new.out) (g.O.Sink.faults c.args.out.now) (g.O.Sink.faults c.refuse.new.out) in
     let read_script : ReadsAll script.told script.left c.deref.result.now = subst (ReadsAll script.told script.left) (sym c.deref.ensures.value) c.in-Ok.ensures.lines in
     let read_image = c.in-Ok-read_image.ensures.read in
-    let is_new = ap (λ (fed : Fed). fed.is_old) c.new.ensures in
-    (
+    let is_new = ap (λ (fed : Fed). fed.is_old) c.new.ensures in (
       image_full image script out c.deref.result.now c.in-Ok-read_image.read.0 c.in-Ok-read_image.read.1.items c.new.result.is_old is_new read_script read_image full.0 line,
       Keeps-refl (g.G.Sink.written c.args.image_out.now),
     )
@@ -62,5 +61,5 @@ returns-clause-says g c =
     inr (
       c.in-Err.ensures.cause.failed,
       image_cut_off image script out image_out c.deref.result.now c.in-Ok-read_image.read.0 c.in-Ok-read_image.read.1.items c.new.result.is_old is_new read_script read_image
-      (mem_state c.in-Ok-run_image.die) c.cells_of.result.now c.in-Ok-run_image.ensures.done c.cells_of.ensures c.in-Err.ensures.front,
+          (mem_state c.in-Ok-run_image.die) c.cells_of.result.now c.in-Ok-run_image.ensures.done c.cells_of.ensures c.in-Err.ensures.front,
     )
