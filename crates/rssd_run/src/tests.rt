@@ -40,7 +40,7 @@ const NONE: Fails = Fails {
 
 /// What a call answers, and what its sinks then have.
 #[derive(Drop)]
-struct Answer {
+struct Outcome {
     status: u8,
     out: Vec<u8>,
     image: Vec<u8>,
@@ -61,7 +61,7 @@ fn sink(alloc: Global, rt: &impl Abort, room: u32, fail: u64) -> MemSink {
 }
 
 /// Answers a line of words.
-fn answer(alloc: Global, rt: &impl Abort, line: &str, ends: Ends) -> Answer {
+fn call(alloc: Global, rt: &impl Abort, line: &str, ends: Ends) -> Outcome {
     let mut words = Vec::new(alloc);
     for word in line.split(' ') {
         words
@@ -81,7 +81,7 @@ fn answer(alloc: Global, rt: &impl Abort, line: &str, ends: Ends) -> Answer {
         &mut out,
         &mut image_out,
     );
-    Answer {
+    Outcome {
         status,
         out: Vec::from_slice(alloc, out.bytes()).expect(rt, "bytes"),
         image: Vec::from_slice(alloc, image_out.bytes()).expect(rt, "bytes"),
@@ -130,7 +130,7 @@ fn a_replay_answers_its_script(rt: HostRuntime) {
             fail: NONE,
             room: 64,
         };
-        let got = answer(rt.alloc(), &rt, line, ends);
+        let got = call(rt.alloc(), &rt, line, ends);
         assert_eq!(rt; (got.status, got.out.as_slice()), (0, text));
         assert!(rt; got.image.is_empty());
     }
@@ -157,7 +157,7 @@ fn bad_words_and_bad_lines_are_told(rt: HostRuntime) {
             fail: NONE,
             room: 64,
         };
-        let got = answer(rt.alloc(), &rt, line, ends);
+        let got = call(rt.alloc(), &rt, line, ends);
         assert_eq!(rt; (got.status, got.out.as_slice()), (status, text));
         assert!(rt; got.image.is_empty());
     }
@@ -176,7 +176,7 @@ fn a_run_reads_an_image_and_gives_the_cells_as_they_stand(rt: HostRuntime) -> Re
             fail: NONE,
             room: 64,
         };
-        let got = answer(rt.alloc(), &rt, "run", ends);
+        let got = call(rt.alloc(), &rt, "run", ends);
         assert_eq!(rt; (got.status, got.out.as_slice()), (0, text));
         assert_eq!(rt; got.image.as_slice(), written.as_slice());
     }
@@ -197,7 +197,7 @@ fn format_gives_a_blank_image_and_upgrade_a_new_one(rt: HostRuntime) -> Result<(
             fail: NONE,
             room: 64,
         };
-        let got = answer(rt.alloc(), &rt, line, ends);
+        let got = call(rt.alloc(), &rt, line, ends);
         assert_eq!(rt; (got.status, got.out.len()), (0, 0));
         assert_eq!(rt; got.image.as_slice(), blank.as_slice());
     }
@@ -220,7 +220,7 @@ fn an_end_that_fails_is_told(rt: HostRuntime) -> Result<(), Fail> {
             fail,
             room,
         };
-        let got = answer(rt.alloc(), &rt, "run", ends);
+        let got = call(rt.alloc(), &rt, "run", ends);
         assert_eq!(rt; (got.status, got.out.as_slice()), (status, text));
         assert_eq!(rt; got.image.as_slice(), &HEAD[..given]);
     }
@@ -236,7 +236,7 @@ fn a_script_of_more_than_a_mebibyte_is_too_long(rt: HostRuntime) -> Result<(), F
         fail: NONE,
         room: 64,
     };
-    let got = answer(rt.alloc(), &rt, "replay plain16 4 2 3 1", ends);
+    let got = call(rt.alloc(), &rt, "replay plain16 4 2 3 1", ends);
     assert_eq!(rt;
         (got.status, got.out.as_slice()),
         (3, b"script too long\n".as_slice())
