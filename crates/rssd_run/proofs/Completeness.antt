@@ -1,15 +1,14 @@
 -- Where all that a command reads is in its grammar and no count of faults rose, only two statuses are left.
-use Rattle.std.proofs.Common.{◌≡◌, ◌⊎◌, inl, inr, ℕ, ◌<◌, List, Option, Some, Ok, Err, IfSome, true, false, refl, ap, arith, subst}
+use Rattle.std.proofs.Common.{◌≡◌, ◌⊎◌, inl, inr, ℕ, List, Option, IfSome, true, refl, ap, arith, subst}
 use Rattle.rssd_script.proofs.Unique.{no_bad}
 use Rattle.die_image.specs.declared.head.ImageHead.{ImageHead}
-use Rattle.die_image.specs.Image.{image_read}
 use Rattle.rssd_words.specs.declared.command.Command.{Command}
 use Rattle.rssd_words.specs.declared.command.Command.TheVariants.{Replay, Run, Format, Make, Upgrade, Queue, Worn, Pair, Audit}
 use Rattle.rssd_run.specs.declared.status.Status.{Status}
 use Rattle.rssd_run.specs.declared.status.Status.TheVariants.{Done, BadWords, BadScript, BadImage, ReadFault, WriteFault, OutOfMemory}
-use Rattle.rssd_run.specs.Statuses.{Call, Output}
+use Rattle.rssd_run.specs.Statuses.{Call}
 use Rattle.rssd_run.specs.ImageRuns.{IsFull}
-use Rattle.rssd_run.specs.Top.{SaysOf, SaysReplay, SaysRun, SaysFormat, SaysUpgrade, IsRefused, IsBadImage, IsNoImage, IsFullImage, HasScript, HasImage, HasOldImage, NoneFailed, IsComplete}
+use Rattle.rssd_run.specs.Top.{SaysOf, SaysReplay, SaysRun, SaysFormat, SaysUpgrade, IsRefused, IsBadImage, IsNoImage, HasScript, HasImage, HasOldImage, NoneFailed, IsComplete}
 
 never_refused : (call : Call) (script : HasScript call) → IfSome call.script.told (IsRefused call.out) → ⊥
 never_refused call script says = elim (subst (λ (text : Option (List ℕ)). IfSome text (IsRefused call.out)) script.told says) [

@@ -1,5 +1,5 @@
 -- A mount of a die of a head is refused only for want of memory or of a spare block, and leaves a session that stands for the sectors of its cells.
-use Rattle.std.proofs.Common.{◌≡◌, ◌≢◌, ◌⊎◌, inl, inr, ℕ, ◌+◌, ◌-◌, ◌*◌, ◌^◌, ◌<◌, min, Bool, true, false, List, length, Option, None, Some, IsSomeAnd, refl, sym, ap, ◌∙◌, arith, subst}
+use Rattle.std.proofs.Common.{◌≡◌, ◌≢◌, ◌⊎◌, inl, inr, ℕ, ◌+◌, ◌-◌, ◌*◌, ◌^◌, min, Bool, true, false, List, length, Option, None, Some, IsSomeAnd, refl, sym, ap, ◌∙◌, arith, subst}
 use Rattle.cell_die.specs.DieState.{DieState, Failures, page_count, page_bytes}
 use Rattle.cell_die.specs.declared.shape.Shape.{Shape}
 use Rattle.cell_die.specs.Calls.{IsQuiet, WhilePowered, Nearer, ReadFailureCame}
@@ -22,9 +22,9 @@ use Rattle.rssd_run.specs.Held.{Tallies, plus, on}
 use Rattle.rssd_run.specs.Steps.{ArrayIs}
 use Rattle.rssd_run.specs.Run.{RunsSession, CutsOffSession, CalmFor}
 use Rattle.rssd_run.specs.Schemes.{meaning_named, HasRow}
-use Rattle.rssd_run.specs.Shows.{Holding, Mounted, Closed, Nothing, SessionValue, Shows, ShowsHolding, Starts, HasNumbers, HasDie}
+use Rattle.rssd_run.specs.Shows.{Holding, Mounted, Closed, Nothing, SessionValue, ShowsHolding, Starts, HasNumbers, HasDie}
 use Rattle.rssd_run.specs.Heads.{plan_of, numbers_named}
-use Rattle.rssd_run.specs.DieRuns.{IsReady, IsStart, StartsOn, sectors_on, RunsTo, RunsOn, RunsInPart, RunsFrontOn}
+use Rattle.rssd_run.specs.DieRuns.{IsReady, IsStart, StartsOn, sectors_on, RunsOn, RunsFrontOn}
 use Rattle.rssd_run.proofs.HeadLimits.{head_fits, named_row}
 
 -- a die of a head that is within the limits, and a scheme of its meaning

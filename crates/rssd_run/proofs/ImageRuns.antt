@@ -1,5 +1,5 @@
 -- What was read, run and given makes what the top call says of `run`.
-use Rattle.std.proofs.Common.{◌≡◌, inr, ℕ, Bool, false, List, [], Option, None, Some, Ok, IfSome, refl, subst}
+use Rattle.std.proofs.Common.{◌≡◌, inr, ℕ, Bool, false, List, [], Option, None, Some, Ok, IfSome, subst}
 use Rattle.std.specs.Io.KnownBytes.{Appends}
 use Rattle.cell_die.specs.DieState.{DieState}
 use Rattle.rssd_io.specs.Faults.{AppendsFront}

@@ -164,7 +164,14 @@ fn bad_words_and_bad_lines_are_told(rt: HostRuntime) {
 }
 
 /// Runs a script on an image: this is what `out` and `image_out` then have.
-fn assert_runs(alloc: Global, rt: &impl Abort, image: &[u8], script: &[u8], out: &[u8], new: &[u8]) {
+fn assert_runs(
+    alloc: Global,
+    rt: &impl Abort,
+    image: &[u8],
+    script: &[u8],
+    out: &[u8],
+    new: &[u8],
+) {
     let ends = Ends {
         image,
         script,
@@ -179,7 +186,14 @@ fn assert_runs(alloc: Global, rt: &impl Abort, image: &[u8], script: &[u8], out:
 #[test]
 fn a_run_reads_an_image_and_gives_the_cells_as_they_stand(rt: HostRuntime) -> Result<(), Fail> {
     let (blank, written) = (image(rt.alloc(), b"")?, written(rt.alloc())?);
-    assert_runs(rt.alloc(), &rt, &blank, b"write 0 a5\n", b"first\n", &written);
+    assert_runs(
+        rt.alloc(),
+        &rt,
+        &blank,
+        b"write 0 a5\n",
+        b"first\n",
+        &written,
+    );
     assert_runs(rt.alloc(), &rt, &written, b"read 0\n", b"a5\n", &written);
     Ok(())
 }
