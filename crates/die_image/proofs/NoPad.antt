@@ -1,12 +1,12 @@
--- Where the test of the cells in a row finds no charged pad cell, none of any page is charged.
-use Rattle.std.proofs.Common.{◌≡◌, ℕ, zero, suc, ◌+◌, ◌-◌, ◌*◌, ◌/◌, ◌%◌, ◌<◌, Bool, true, false, ◌&&◌, ◌||◌, ◌==◌, nat_le, nat_lt, List, [], ◌∷◌, length, get_or, refl, sym, ap, ◌∙◌, subst, inl, inr, arith, add-zero}
+-- The test of the cells in a row finds no charged pad cell exactly where none of any page is charged.
+use Rattle.std.proofs.Common.{◌≡◌, ℕ, zero, suc, ◌+◌, ◌-◌, ◌*◌, ◌/◌, ◌%◌, ◌<◌, Bool, true, false, ◌&&◌, ◌||◌, ◌==◌, nat_le, nat_lt, List, [], ◌∷◌, length, get_or, refl, sym, ap, ◌∙◌, subst, inl, inr, lit<, arith, add-zero, zero-add}
 use Rattle.std.specs.Fork.{slice_chunk}
 use Rattle.std.specs.Int.{bit_at}
 use Rattle.std.specs.List.{list_any, range_with_len}
 use Rattle.std.proofs.lemmas.Bool.{and_parts, cases_lt, leb-true, ltb-true}
 use Rattle.std.proofs.lemmas.List.{get_or-take, get_or-drop, get_or_past}
 use Rattle.std.proofs.lemmas.List.FromFn.{get_or-range_with_len, length-range_with_len}
-use Rattle.std.proofs.lemmas.Nat.{div-mul-add}
+use Rattle.std.proofs.lemmas.Nat.{div-mul-add, div-add-mod'}
 use Rattle.std.proofs.Math.Nat.{mul-add-mod_self_right, mod-eq_of_lt}
 use Rattle.cell_die.specs.declared.shape.Shape.{Shape}
 use Rattle.cell_die.specs.Cells.{is_charged}
@@ -82,3 +82,55 @@ no_pad shape cells none page cell pad =
       | inl lt ↦ charged_in shape cells none page cell pad lt
       | inr past ↦ ap (λ (b : ℕ). bit_at b (cell % 8) == 1) (get_or_past cells index 0 past) ∙ zero_cell (cell % 8) (omega arith)
     ]
+
+-- ---- and the other way round
+
+-- no pad cell of any page is charged, of the cells cut into pages
+abbrev pub NoneCharged : Shape → List ℕ → Type 0
+NoneCharged shape cells = (page cell : ℕ) → is_pad shape page cell ≡ true → is_charged (slice_chunk cells (page_bytes shape) page) cell ≡ false
+
+neither : (a b : Bool) → a ≡ false → b ≡ false → (a || b) ≡ false
+neither true b ha hb = ha
+neither false b ha hb = hb
+
+false_if : (a b : Bool) → (a ≡ true → b ≡ false) → (a && b) ≡ false
+false_if true b h = h refl
+false_if false b h = refl
+
+no_test_met : (f : ℕ → Bool) → ((k : ℕ) → k < 8 → f k ≡ false) → list_any f (range_with_len 0 8) ≡ false
+no_test_met f h =
+    rw (h 0 (lit< tt), h 1 (lit< tt), h 2 (lit< tt), h 3 (lit< tt), h 4 (lit< tt), h 5 (lit< tt), h 6 (lit< tt), h 7 (lit< tt)) refl
+
+-- each byte passes the test
+none_from : (shape : Shape) (from : ℕ) (cells : List ℕ) → ((i : ℕ) → i < length cells → is_pad_charged_in shape (from + i) (get_or cells i 0) ≡ false) →
+    is_pad_charged_from shape from cells ≡ false
+none_from shape from [] each = refl
+none_from shape from (byte ∷ cells) each =
+    let first : is_pad_charged_in shape from byte ≡ false = rw add-zero at (each 0 (omega arith)) in
+    neither (is_pad_charged_in shape from byte) (is_pad_charged_from shape (suc from) cells) first
+    (none_from shape (suc from) cells (λ i lt.
+    let next : from + suc i ≡ suc from + i = omega arith in
+    subst (λ (index : ℕ). is_pad_charged_in shape index (get_or cells i 0) ≡ false) next (each (suc i) (omega arith))))
+
+-- a pad cell of the byte at this index is one of its page
+uncharged_at : (shape : Shape) (cells : List ℕ) → NoneCharged shape cells → (index k : ℕ) → k < 8 →
+    is_pad shape (index / page_bytes shape) (8 * (index % page_bytes shape) + k) ≡ true → (bit_at (get_or cells index 0) k == 1) ≡ false
+uncharged_at shape cells none index k lt pad =
+    let page : ℕ = index / page_bytes shape in
+    let place : ℕ = index % page_bytes shape in
+    let the_byte : (8 * place + k) / 8 ≡ place = omega arith in
+    let the_bit : (8 * place + k) % 8 ≡ k = omega arith in
+    let within : place < page_bytes shape = rw the_byte at (pad_within shape page (8 * place + k) pad) in
+    let the_index : page * page_bytes shape + place ≡ index = div-add-mod' index (page_bytes shape) in
+    let here : get_or (slice_chunk cells (page_bytes shape) page) place 0 ≡ get_or cells index 0 = rw (get_or-take, get_or-drop, the_index) refl in
+    rw (the_byte, the_bit, here) at (none page (8 * place + k) pad)
+
+none_in : (shape : Shape) (cells : List ℕ) → NoneCharged shape cells → (index : ℕ) → is_pad_charged_in shape index (get_or cells index 0) ≡ false
+unfolding is_pad_charged_in
+none_in shape cells none index =
+    no_test_met (λ k. is_pad shape (index / page_bytes shape) (8 * (index % page_bytes shape) + k) && bit_at (get_or cells index 0) k == 1)
+    (λ k lt. false_if (is_pad shape (index / page_bytes shape) (8 * (index % page_bytes shape) + k)) (bit_at (get_or cells index 0) k == 1)
+    (λ pad. uncharged_at shape cells none index k lt pad))
+
+pub none_charged : (shape : Shape) (cells : List ℕ) → NoneCharged shape cells → is_pad_charged shape cells ≡ false
+none_charged shape cells none = none_from shape 0 cells (λ i lt. rw zero-add (none_in shape cells none i))

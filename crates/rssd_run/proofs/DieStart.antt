@@ -124,7 +124,7 @@ quiet_after changes reads (Some a) (Some b) quiet passed =
     let no_read = quiet.2 in
     (omega (arith, cut, no_cut), omega (arith, read, no_read))
 
-start_cells : (head : ImageHead) (die : DieState) (view : View) → IsStart head die view → view.device.die.cells ≡ die.cells
+pub start_cells : (head : ImageHead) (die : DieState) (view : View) → IsStart head die view → view.device.die.cells ≡ die.cells
 start_cells head die view start = ap (λ (v : DeviceView). v.die.cells) start.same ∙ start.mounts.cells.cells
 
 start_uncut : (head : ImageHead) (die : DieState) (view : View) → IsQuiet die → IsStart head die view → cut_of view.device.die ≡ 0
@@ -142,7 +142,7 @@ shown_die d base (Mounted device) view die shows has = ap (λ (v : DeviceView). 
 shown_die d base (Closed numbers other) view die shows has = shows.0 ∙ has
 shown_die d base Nothing view die shows has = absurd shows
 
-named_shape : (head : ImageHead) → geometry_shape (numbers_named head).geometry ≡ shape_of head
+pub named_shape : (head : ImageHead) → geometry_shape (numbers_named head).geometry ≡ shape_of head
 named_shape head =
     let row : HasRow head.scheme (meaning_named head.scheme) = named_row head.scheme in
     λ i. record (shape_of head) { spare_bytes = 16 * row.generations i }

@@ -25,5 +25,6 @@ pub mod Calm
 pub mod Headline
 pub mod Spending
 pub mod ImageRuns
+pub mod LeftCells
 pub mod Completeness
 pub mod Rows

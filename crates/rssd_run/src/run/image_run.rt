@@ -1,10 +1,10 @@
 //! A run on an image: the lines of a script are run on a die of the image's cells that is mounted first.
-ghost use Rattle.std.specs.Prelude.{◌≡◌, ℕ, List, Option, true, false, replicate, IfOk, IsErrOf};
+ghost use Rattle.std.specs.Prelude.{◌≡◌, ℕ, List, Ok, Option, true, false, replicate, IfOk, IsErrOf};
 ghost use Rattle.std.specs.List.{All};
 ghost use Rattle.cell_die.specs.Calls.{IsQuiet};
 ghost use Rattle.cell_die.specs.DieState.{DieState};
 ghost use Rattle.die_image.specs.declared.head.ImageHead.{ImageHead as Head};
-ghost use Rattle.die_image.specs.Image.{die_bytes, is_within_limits, shape_of, AreCells};
+ghost use Rattle.die_image.specs.Image.{die_bytes, image, image_read, is_within_limits, shape_of, AreCells};
 ghost use Rattle.mem_die.specs.MemState.{mem_state, IsMade};
 ghost use Rattle.rssd_io.specs.Faults.{Rose};
 ghost use Rattle.rssd_script.specs.declared.lines.Line.{Line as Spelled};
@@ -100,4 +100,11 @@ pub fn charge_never_falls_in_an_image_run()
 pub fn image_runs_without_failures_are_calm()
     ensures { (head : Head) (die last : DieState) (lines : List Spelled) (written after : Option (List ℕ)) (quiet : IsQuiet die) (given : RunsOn head die lines written after last)
         (calm : CalmFor (numbers_named head) die lines) → All (λ line. is_arming line ≡ false) lines → IsCalm (given.run calm).run.events }
+{}
+
+/// The image of the cells that such a run on an image leaves is read again, as this head and these cells: no pad cell is charged.
+pub fn image_runs_leave_images()
+    ensures { (head : Head) (cells left : List ℕ) (last : DieState) (lines : List Spelled) (written after : Option (List ℕ)) (given : RunsImage head cells lines written after last)
+        → AreCells head cells → CalmFor (numbers_named head) given.die lines → HasCells left last
+        → AreCells head left × (image_read false (image head left) ≡ Ok (head, left)) }
 {}
