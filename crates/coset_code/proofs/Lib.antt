@@ -4,9 +4,13 @@ pub mod ChargeLemmas
 pub mod ChargeSetLemmas
 pub mod CoordinateLemmas
 pub mod MessageLemmas
+pub mod MidwayLemmas
 pub mod NoneOver
 pub mod OfferLemmas
 pub mod OverLemmas
+pub mod RowLemmas
 pub mod SumLemmas
+pub mod TurnLemmas
+pub mod UnitLemmas
 pub mod WordLemmas
 pub mod WordShapes

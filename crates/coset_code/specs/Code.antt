@@ -8,6 +8,8 @@ use Rattle.coset_code.specs.Sums.{syndrome, bits_of}
 use Rattle.coset_code.specs.Solution.{IsBasisSolution}
 use Rattle.gf2_solve.specs.Family.{Family}
 use Rattle.coset_code.specs.Coordinates.{HasCoordinates}
+use Rattle.coset_code.specs.declared.turned.Turned.{Turned}
+use Rattle.coset_code.specs.Rows.{IsReady}
 
 -- bit i of the message is the sum over GF(2) of bit i of the columns of the charged cells
 abbrev pub coset_message : ℕ → List ℕ → List Bool → List Bool
@@ -26,11 +28,12 @@ abbrev pub IsShape : ℕ → ℕ → List ℕ → Type 0
 IsShape k n columns = (1 ≤ k) × (k ≤ 128) × (length columns ≡ n) × All (λ column. column < 2 ^ k) columns
 
 -- a code's table, its basis and coordinates, and its three rows
-pub record IsCoset (k n : ℕ) (columns coords masked : List ℕ) (full : Family) (rank : ℕ) (old message out : List ℕ) : Type 0 where
+pub record IsCoset (k n : ℕ) (columns coords masked : List ℕ) (full : Family) (rank : ℕ) (turned : Turned) (old message out : List ℕ) : Type 0 where
   pub table : IsTable k n columns
   pub system : HasCoordinates columns coords full
   pub rank_is : rank ≡ length full.columns
   pub masked_room : length masked ≡ length coords
+  pub ready : IsReady coords full turned
   pub old_row : length old ≡ words_for n
   pub message_row : length message ≡ words_for k
   pub out_row : length out ≡ words_for n

@@ -80,7 +80,7 @@ fn mask_all(coords: &[u128], mask: u128, masked: &mut [u128])
 }
 
 /// Charges the cells that tag the vectors of a set.
-fn charge_set(basis: &Basis, set: u128, row: &mut [u64])
+pub fn charge_set(basis: &Basis, set: u128, row: &mut [u64])
     requires set { set < 2 ^ length basis.now.columns }
     requires tags { (p : ℕ) → p < length basis.now.columns → slice_index basis.now.tags p < 64 * length row.old }
     requires tags_len { length basis.now.tags ≡ length basis.now.columns }

@@ -9,9 +9,10 @@ ghost use Rattle.coset_code.specs.Solution.{IsBasisSolution};
 ghost use Rattle.coset_code.specs.Refusal.{IsMade};
 ghost use Rattle.coset_code.specs.Words.{columns_from};
 
-use crate::coordinates::{go_over, take_coordinates};
+use crate::coordinates::take_coordinates;
 use crate::message::{sum_of, write_bits, write_number};
 use crate::solve::syndrome_of;
+use crate::turned::{Turned, go, make_turned};
 use gf2_solve::Basis;
 use rand_core::SeedableRng;
 use rand_core::utils::NextWord;
@@ -124,6 +125,8 @@ pub struct Coset<const K: usize, const N: usize> {
     // the coordinates at charged cells, and the basis of those of uncharged cells
     masked: Vec<u128>,
     basis: Basis,
+    // the coordinates by rows, and room for rows
+    turned: Turned,
     // rows for the calls on truth values
     old: Vec<u64>,
     message: Vec<u64>,
@@ -138,7 +141,7 @@ impl<const K: usize, const N: usize> Model for Coset<K, N> {
 
     ghost view = { λ c. c.columns.items };
 
-    ghost invariant = { λ c. IsCoset K N c.columns.items c.coords.items c.masked.items c.full c.rank c.old.items c.message.items c.out.items };
+    ghost invariant = { λ c. IsCoset K N c.columns.items c.coords.items c.masked.items c.full c.rank c.turned c.old.items c.message.items c.out.items };
 }
 
 impl<const K: usize, const N: usize> Coset<K, N> {
@@ -157,6 +160,7 @@ impl<const K: usize, const N: usize> Coset<K, N> {
         let mut full = Basis::new(alloc)?;
         let mut coords = vec![in alloc; 0; columns.len()]?;
         let rank = take_coordinates(&mut full, &columns, &mut coords);
+        let turned = make_turned(alloc, &full, rank, &coords)?;
         Ok(Coset {
             masked: vec![in alloc; 0; columns.len()]?,
             columns,
@@ -164,6 +168,7 @@ impl<const K: usize, const N: usize> Coset<K, N> {
             rank,
             coords,
             basis: Basis::new(alloc)?,
+            turned,
             old: vec![in alloc; 0; N.div_ceil(64)]?,
             message: vec![in alloc; 0; K.div_ceil(64)]?,
             out: vec![in alloc; 0; N.div_ceil(64)]?,
@@ -183,22 +188,24 @@ impl<const K: usize, const N: usize> WomCode<K, N> for Coset<K, N> {
     fn over(&mut self, old: &[bool], msg: &[bool], out: &mut [bool]) -> Carry {
         pack(old, &mut self.old);
         pack(msg, &mut self.message);
-        let carry = go_over(
+        let carry = go(
             &mut self.basis,
             &self.full,
             self.rank,
             &self.columns,
             &self.coords,
             &mut self.masked,
+            &mut self.turned,
             K,
             &self.old,
             &self.message,
             &mut self.out,
         );
-        if carry == Carry::Carried {
-            unpack(&self.out, out);
+        if carry != Carry::Carried {
+            return Carry::Declined;
         }
-        carry
+        unpack(&self.out, out);
+        Carry::Carried
     }
 }
 
@@ -208,13 +215,14 @@ impl<const K: usize, const N: usize> PackedCode<K, N> for Coset<K, N> {
     }
 
     fn over_words(&mut self, old: &[u64], msg: &[u64], out: &mut [u64]) -> Carry {
-        go_over(
+        go(
             &mut self.basis,
             &self.full,
             self.rank,
             &self.columns,
             &self.coords,
             &mut self.masked,
+            &mut self.turned,
             K,
             old,
             msg,

@@ -5,7 +5,9 @@ mod coordinates;
 mod coset;
 mod laws;
 mod message;
+mod rows;
 mod solve;
+mod turned;
 
 pub use coset::{Columns, Coset, CosetRefusal, OutOfMemory};
 pub use laws::basis_solution_is_unique;

@@ -28,7 +28,7 @@ pub fn syndrome_of(columns: &[u128], cells: &[u64]) -> u128
 }
 
 /// The column of a cell by its word and its place there, or zero past the last cell.
-fn column_at(columns: &[u128], index: usize, place: usize) -> u128
+pub fn column_at(columns: &[u128], index: usize, place: usize) -> u128
     requires index { index < 2 ^ 57 }
     requires place { place < 64 }
     ensures { result ≡ slice_index columns.now (64 * index + place) }

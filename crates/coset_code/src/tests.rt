@@ -138,6 +138,15 @@ fn blank_cells_take_zeros_and_full_cells_one_message(rt: HostRuntime) -> Result<
     Ok(())
 }
 
+/// The words of the message that two cells carry.
+fn message_of(code: &Coset<128, 2>, cells: &[bool; 2]) -> [u64; 2] {
+    let mut column = [false; 128];
+    let mut packed = [0; 2];
+    code.decode(cells, &mut column);
+    pack(&column, &mut packed);
+    packed
+}
+
 #[test]
 fn the_first_words_of_seed_0_are_two_columns(rt: HostRuntime) -> Result<(), Fail> {
     let code = Coset::<128, 2>::new(rt.alloc(), Columns::new(rt.alloc(), 0, 2)?)?;
@@ -145,11 +154,7 @@ fn the_first_words_of_seed_0_are_two_columns(rt: HostRuntime) -> Result<(), Fail
         ([true, false], [0xe220a8397b1dcdaf, 0x6e789e6aa1b965f4]),
         ([false, true], [0x06c45d188009454f, 0xf88bb8a8724c81ec]),
     ] {
-        let mut column = [false; 128];
-        let mut packed = [0; 2];
-        code.decode(&cells, &mut column);
-        pack(&column, &mut packed);
-        assert_eq!(rt; packed, words);
+        assert_eq!(rt; message_of(&code, &cells), words);
     }
     Ok(())
 }

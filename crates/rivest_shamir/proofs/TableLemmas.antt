@@ -1,7 +1,7 @@
 -- The two tables against the definitions: every entry is tested over all words of three cells.
-use Rattle.std.proofs.Common.{◌≡◌, ℕ, ◌<◌, ◌⊎◌, Bool, true, not, ◌&&◌, ◌||◌, cond, List, [], ◌∷◌, length, get_or, eqb, ltb, inl, inr, sym, ◌∙◌, ap, refl, arith}
+use Rattle.std.proofs.Common.{◌≡◌, ℕ, ◌<◌, Bool, true, not, ◌&&◌, ◌||◌, cond, List, [], ◌∷◌, get_or, eqb, ltb, inl, inr, sym, ◌∙◌, ap, refl}
 use Rattle.std.proofs.lemmas.Bool.{agree_below, agree_below_at, and_parts, or_cases, not-true, true≢false, ltb-true, ne_eqb}
-use Rattle.wom_code.specs.Cells.{Carries, NoneCarries, charge_of}
+use Rattle.wom_code.specs.Cells.{NoneCarries, charge_of}
 use Rattle.wom_code.specs.Packed.{cells_of}
 use Rattle.wom_code.proofs.WordTests.{same, same_to, carries_test, carries_from, carries_to, all_rows, all_rows_at}
 use Rattle.wom_code.proofs.TableCodes.{IsEntry}

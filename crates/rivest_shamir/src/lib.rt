@@ -2,8 +2,14 @@
 //! the bits b xor c and a xor c; a word carries its message, or else its complement does.
 #![tactic(auto)]
 
+ghost use Rattle.std.specs.Prelude.{◌≡◌, ℕ, ◌*◌, ◌≤◌, ◌<◌, ◌^◌, List, Bool, IfSome, IfNone};
+ghost use Rattle.wom_code.specs.Cells.{Carries, NoneCarries};
+ghost use Rattle.wom_code.specs.Groups.{chunk_of};
 ghost use Rattle.rivest_shamir.specs.Words.{message_of, IsLeast};
 
+mod triples;
+
+use crate::triples::{decode_triples, over_triples};
 use wom_code::{Carry, FromBlank, PackedCode, WomCode, pack, unpack};
 
 /// The message of each word of three cells; the bit b xor c is bit 0.
@@ -71,6 +77,21 @@ impl PackedCode<2, 3> for RivestShamir {
         }
         out[0] = next;
         Carry::Carried
+    }
+
+    fn decode_group(&self, _count: usize, cells: u64) -> u64 {
+        decode_triples(cells)
+    }
+
+    fn over_group(&mut self, count: usize, cells: u64, messages: u64) -> Option<u64>
+        requires few { count ≤ 16 }
+        ensures carried { IfSome result (λ new. (j : ℕ) → j < count → Carries message_of (chunk_of 3 cells j) (chunk_of 2 messages j) (chunk_of 3 new j)) }
+        ensures given { IfSome result (λ new. (j : ℕ) → j < count → IsLeast (chunk_of 3 cells j) (chunk_of 2 messages j) (chunk_of 3 new j)) }
+        ensures narrow { IfSome result (λ new. new < 2 ^ (count * 3)) }
+        ensures declined { IfNone result ((j : ℕ) × (j < count) × NoneCarries message_of 3 (chunk_of 3 cells j) (chunk_of 2 messages j)) }
+        ensures same_code { (row : List Bool) → message_of row ≡ message_of row }
+    {
+        over_triples(count, cells, messages)
     }
 }
 

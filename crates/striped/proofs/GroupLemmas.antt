@@ -1,119 +1,19 @@
--- Chunks side by side in one word, and the group of them that stands in a row.
-use Rattle.std.proofs.Common.{◌≡◌, ℕ, ◌+◌, ◌-◌, ◌*◌, ◌/◌, ◌%◌, ◌^◌, ◌<◌, ◌≤◌, Bool, true, false, List, [], ◌∷◌, length, get_or, slice_index, bit_or, ◌==◌, sym, ◌∙◌, ap, ap₂, subst, inl, inr, arith}
-use Rattle.std.specs.Int.{bit_at}
+-- The group of chunks that stands in a row, side by side in one word.
+use Rattle.std.proofs.Common.{◌≡◌, ℕ, min, ◌+◌, ◌-◌, ◌*◌, ◌/◌, ◌%◌, ◌<◌, ◌≤◌, Bool, true, false, List, length, get_or, ◌==◌, sym, ◌∙◌, ap, ap₂, subst, inl, inr, arith}
+use Rattle.std.specs.Int.{bit_at, div_ceil}
+use Rattle.std.proofs.lemmas.Grind.{div_ceil_times}
 use Rattle.std.proofs.lemmas.Bool.{cases_lt}
-use Rattle.std.proofs.lemmas.List.{ext_get_or, get_or_past}
-use Rattle.std.proofs.lemmas.List.FromFn.{length-map-range_with_len, get_or-map-range_with_len}
-use Rattle.std.proofs.lemmas.Nat.{row_fits, mul-le, div-mul-add, mod-mul-add, div-add-mod', mod_below, pow_pos}
-use Rattle.std.proofs.lemmas.Nat.Bits.{bit_at_above, bit_at_cat_low, bit_at_cat_high, bit_at-zero, same_from_bits}
+use Rattle.std.proofs.lemmas.List.{ext_get_or}
+use Rattle.std.proofs.lemmas.Nat.{row_fits, mul-le, div-mul-add, mod-mul-add, div-add-mod', mod_below}
 use Rattle.cell_bits.specs.Cells.{charge_at, is_charged, IsAbove}
-use Rattle.cell_bits.proofs.Above.{above_from}
-use Rattle.cell_bits.proofs.PieceLemmas.{taken_is, taken_narrow}
+use Rattle.cell_bits.proofs.Above.{above_from, above_trans}
 use Rattle.wom_code.specs.Cells.{cell_at, Carries, NoneCarries}
-use Rattle.wom_code.specs.Packed.{word_bit, cells_of, IsRow}
-use Rattle.wom_code.proofs.PackedLemmas.{same_cells}
-use Rattle.striped.specs.Groups.{chunk_of}
+use Rattle.wom_code.specs.Groups.{chunk_of}
+use Rattle.wom_code.proofs.GroupLemmas.{length-chunk_of, get_or-chunk_of}
+use Rattle.striped.specs.Groups.{IsGroup, WritesGroup, DeclinesGroup}
 use Rattle.striped.specs.Striping.{Striping, chunks, page_bytes, chunk_cells, chunk_message, decoded_bit}
 use Rattle.striped.specs.Carried.{get_or-chunk_message}
 use Rattle.striped.proofs.ChunkLemmas.{chunk_within, length-chunk_cells, get_or-chunk_cells, length-chunk_message, none_carries, place}
-
-pub length-chunk_of : (n word j : ℕ) → length (chunk_of n word j) ≡ n
-unfolding chunk_of
-length-chunk_of n word j = length-map-range_with_len (λ c. bit_at word (j * n + c) == 1) 0 n
-
-pub get_or-chunk_of : (n word j c : ℕ) → c < n → get_or (chunk_of n word j) c false ≡ (bit_at word (j * n + c) == 1)
-unfolding chunk_of
-get_or-chunk_of n word j c h = get_or-map-range_with_len (λ k. bit_at word (j * n + k) == 1) 0 n c c false h (omega arith)
-
-pub same_chunk_of : (n a b i j : ℕ) → ((c : ℕ) → c < n → bit_at a (i * n + c) ≡ bit_at b (j * n + c)) → chunk_of n a i ≡ chunk_of n b j
-same_chunk_of n a b i j h =
-    ext_get_or false (chunk_of n a i) (chunk_of n b j) (length-chunk_of n a i ∙ sym (length-chunk_of n b j)) (λ c l.
-    let m : c < n = omega (arith, length-chunk_of n a i) in
-    get_or-chunk_of n a i c m ∙ ap (λ x. x == 1) (h c m) ∙ sym (get_or-chunk_of n b j c m))
-
--- ---- rows of one word
-
-pub first_word : (words : List ℕ) (i : ℕ) → i < 64 → word_bit words i ≡ bit_at (slice_index words 0) i
-first_word words i h =
-    let q : i / 64 ≡ 0 = omega arith in
-    let r : i % 64 ≡ i = omega arith in
-    ap₂ (λ (x y : ℕ). bit_at (slice_index words x) y) q r
-
-pub one_row : (n w : ℕ) → 1 ≤ n → n ≤ 64 → w < 2 ^ n → IsRow n (w ∷ [])
-one_row n w some few narrow = record {
-  count = omega arith;
-  padding = λ i h. elim (cases_lt i 64) [
-    | inl l ↦ first_word (w ∷ []) i l ∙ bit_at_above w n i narrow h
-    | inr m ↦ ap (λ x. bit_at x (i % 64)) (get_or_past (w ∷ []) (i / 64) 0 (omega arith)) ∙ bit_at-zero (i % 64)
-  ];
-}
-
-pub one_chunk : (n w word j : ℕ) → n ≤ 64 → ((i : ℕ) → i < n → bit_at w i ≡ bit_at word (j * n + i)) → cells_of n (w ∷ []) ≡ chunk_of n word j
-one_chunk n w word j few h =
-    sym (same_cells n (w ∷ []) (chunk_of n word j) (length-chunk_of n word j) (λ c l.
-    get_or-chunk_of n word j c l ∙ ap (λ x. x == 1) (sym (first_word (w ∷ []) c (omega arith) ∙ h c l))))
-
-pub row_narrow : (n : ℕ) (words : List ℕ) → IsRow n words → slice_index words 0 < 2 ^ 64 → n ≤ 64 → slice_index words 0 < 2 ^ n
-row_narrow n words row word few =
-    subst (λ x. x < 2 ^ n) (same_from_bits (slice_index words 0 % 2 ^ n) (slice_index words 0) same) (mod_below (slice_index words 0) (2 ^ n) (pow_pos n))
-  where
-    whole : slice_index words 0 / 2 ^ n * 2 ^ n + slice_index words 0 % 2 ^ n ≡ slice_index words 0
-    whole = div-add-mod' (slice_index words 0) (2 ^ n)
-
-    none : (i : ℕ) → n ≤ i → bit_at (slice_index words 0) i ≡ 0
-    none i h = elim (cases_lt i 64) [
-      | inl l ↦ sym (first_word words i l) ∙ row.padding i h
-      | inr m ↦ bit_at_above (slice_index words 0) 64 i word m
-    ]
-
-    same : (i : ℕ) → bit_at (slice_index words 0 % 2 ^ n) i ≡ bit_at (slice_index words 0) i
-    same i = elim (cases_lt i n) [
-      | inl l ↦ sym (bit_at_cat_low (slice_index words 0 / 2 ^ n) n (slice_index words 0 % 2 ^ n) i l) ∙ ap (λ x. bit_at x i) whole
-      | inr m ↦ bit_at_above (slice_index words 0 % 2 ^ n) n i (mod_below (slice_index words 0) (2 ^ n) (pow_pos n)) m ∙ sym (none i m)
-    ]
-
--- ---- one more chunk above those of a word
-
-abbrev pub joined_with : ℕ → ℕ → ℕ → ℕ
-joined_with word done w = bit_or word (w * 2 ^ done % 18446744073709551616)
-
-joined_low : (word w done more : ℕ) → word < 2 ^ done → w < 2 ^ more → done + more ≤ 64 → (i : ℕ) → i < done → bit_at (joined_with word done w) i ≡ bit_at word i
-joined_low word w done more h p fits i l = ap (λ x. bit_at x i) (taken_is word w done more h p fits) ∙ bit_at_cat_low w done word i l
-
-joined_high : (word w done more : ℕ) → word < 2 ^ done → w < 2 ^ more → done + more ≤ 64 → (i : ℕ) → bit_at (joined_with word done w) (done + i) ≡ bit_at w i
-joined_high word w done more h p fits i =
-    let back : done + i - done ≡ i = omega arith in
-    ap (λ x. bit_at x (done + i)) (taken_is word w done more h p fits) ∙ bit_at_cat_high w done word (done + i) h (omega arith) ∙ ap (bit_at w) back
-
-next : (n j : ℕ) → j * n + n ≡ (j + 1) * n
-next n j = grind arith
-
-pub joined_narrow : (n j word w : ℕ) → word < 2 ^ (j * n) → w < 2 ^ n → j * n + n ≤ 64 → joined_with word (j * n) w < 2 ^ ((j + 1) * n)
-joined_narrow n j word w h p fits = subst (λ k. joined_with word (j * n) w < 2 ^ k) (next n j) (taken_narrow word w (j * n) n h p fits)
-
--- the earlier chunks stay
-pub joined_earlier : (n j word w i : ℕ) → word < 2 ^ (j * n) → w < 2 ^ n → j * n + n ≤ 64 → i < j → chunk_of n (joined_with word (j * n) w) i ≡ chunk_of n word i
-joined_earlier n j word w i h p fits l =
-    same_chunk_of n (joined_with word (j * n) w) word i i (λ c k.
-    joined_low word w (j * n) n h p fits (i * n + c) (omega (arith, row_fits i n j n l (omega arith))))
-
--- and the last is the one that was joined
-pub joined_last : (n j word w : ℕ) (words : List ℕ) → word < 2 ^ (j * n) → w < 2 ^ n → j * n + n ≤ 64 → ((i : ℕ) → i < n → bit_at w i ≡ word_bit words i) →
-    chunk_of n (joined_with word (j * n) w) j ≡ cells_of n words
-joined_last n j word w words h p fits bits =
-    same_cells n words (chunk_of n (joined_with word (j * n) w) j) (length-chunk_of n _ j) (λ c l.
-    get_or-chunk_of n (joined_with word (j * n) w) j c l ∙ ap (λ x. x == 1) (joined_high word w (j * n) n h p fits c ∙ bits c l))
-
--- chunk j of a group stands within its word
-pub within_word : (n j count : ℕ) → j < count → count * n ≤ 64 → j * n + n ≤ 64
-within_word n j count h fits = omega (arith, row_fits j n count n h (omega arith))
-
-pub carries_as : (now before : List Bool → List Bool) (old old' message message' new new' : List Bool) → ((row : List Bool) → now row ≡ before row) →
-    old ≡ old' → message ≡ message' → new ≡ new' → Carries now old message new → Carries before old' message' new'
-carries_as now before old old' message message' new new' same o m n carries = record {
-  above = λ i h. ap (λ r. cell_at r i) (sym n) ∙ carries.above i (ap (λ r. cell_at r i) o ∙ h);
-  decodes = ap before (sym n) ∙ sym (same new) ∙ carries.decodes ∙ m;
-}
 
 -- ---- groups in a row
 
@@ -153,15 +53,6 @@ kept_cells s n new old done j e h below =
     ext_get_or false (chunk_cells s n new j) (chunk_cells s n old j) (length-chunk_cells s n new j ∙ sym (length-chunk_cells s n old j)) (λ c l.
     let m : c < n = omega (arith, length-chunk_cells s n new j) in
     cell_on_page s n new j c e m ∙ ap (λ x. x == 1) (below (j * n + c) (omega (arith, row_fits j n done n h (omega arith)))) ∙ sym (cell_on_page s n old j c e m))
-
--- count chunks from chunk done on: their old cells and messages stand in words, and their new cells are those of a third
-pub record IsGroup (n k done count : ℕ) (old new sector : List ℕ) (cells messages out : ℕ) : Type 0 where
-  pub same_length : length new ≡ length old
-  pub taken : (i : ℕ) → i < count * n → bit_at cells i ≡ charge_at old (done * n + i)
-  pub told : (i : ℕ) → i < count * k → bit_at messages i ≡ charge_at sector (done * k + i)
-  pub put : (i : ℕ) → i < count * n → charge_at new (done * n + i) ≡ bit_at out i
-  pub below : (c : ℕ) → c < done * n → charge_at new c ≡ charge_at old c
-  pub above : (c : ℕ) → done * n + count * n ≤ c → charge_at new c ≡ charge_at old c
 
 in_group : (n j count c : ℕ) → j < count → c < n → j * n + c < count * n
 in_group n j count c h l = omega (arith, row_fits j n count n h (omega arith))
@@ -296,3 +187,77 @@ both_parts done count n = grind arith
 
 pub some_product : (a b : ℕ) → 1 ≤ a → 1 ≤ b → 1 ≤ a * b
 some_product a b h l = omega (arith, mul-le 1 1 a b h l)
+
+-- ---- a write of one group after the other
+
+-- the chunks before chunk done carry their messages, all cells are above the first ones, and those of later chunks are those
+pub record IsBegun (s : Striping) (n done : ℕ) (decode : List Bool → List Bool) (first now sector : List ℕ) : Type 0 where
+  pub carried : (j : ℕ) → j < done → decode (chunk_cells s n now j) ≡ chunk_message s sector j
+  pub above : IsAbove now first
+  pub rest : (c : ℕ) → done * n ≤ c → charge_at now c ≡ charge_at first c
+
+pub begun_more : (s : Striping) (n done count : ℕ) (now before : List Bool → List Bool) (first old new sector : List ℕ) → s.page_cells ≡ n → 1 ≤ n → ((row : List Bool) → now row ≡ before row) →
+    IsBegun s n done before first old sector → WritesGroup n s.message_bits done count now old new sector → IsBegun s n (done + count) before first new sector
+begun_more s n done count now before first old new sector e some same b w = record {
+  carried = group_carried s n done count now before old new sector w.cells w.messages w.out w.group e w.carries same b.carried;
+  above = above_trans new old first (group_above n s.message_bits done count old new sector w.cells w.messages w.out now some w.group w.carries) b.above;
+  rest = λ c h. let parts : (done + count) * n ≡ done * n + count * n = both_parts done count n in w.group.above c (omega arith) ∙ b.rest c (omega arith);
+}
+
+pub begun_declines : (s : Striping) (n done count : ℕ) (now before : List Bool → List Bool) (first old sector : List ℕ) → s.page_cells ≡ n → ((row : List Bool) → now row ≡ before row) → done + count ≤ chunks s →
+    IsBegun s n done before first old sector → DeclinesGroup n s.message_bits done count now old sector →
+    (i : ℕ) × (i < chunks s) × NoneCarries before n (chunk_cells s n first i) (chunk_message s sector i)
+begun_declines s n done count now before first old sector e same fits b d =
+    let within = d.within in (
+      done + d.place,
+      omega arith,
+      group_declined s n done count d.place now before first sector d.cells d.messages e d.within (λ i h. d.taken i h ∙ b.rest (done * n + i) (omega arith)) d.told same d.none,
+    )
+
+-- a group that stands within the sector, or is cut off at its end
+pub whole_within : (x k done count : ℕ) → 1 ≤ k → 1 ≤ count → count ≤ x / k - done → (done * k + count * k ≤ x) × (done * k < x)
+whole_within x k done count some few h =
+    let all : x / k * k + x % k ≡ x = div-add-mod' x k in
+    let most : (done + count) * k ≤ x / k * k = mul-le (done + count) k (x / k) k (omega arith) (omega arith) in
+    let parts : (done + count) * k ≡ done * k + count * k = both_parts done count k in
+    let some_bits : 1 ≤ count * k = some_product count k few some in
+    (omega arith, omega arith)
+
+pub whole_here : (x k done count : ℕ) → 1 ≤ k → 1 ≤ count → count ≤ x / k - done → count * k ≡ min (count * k) (x - done * k)
+whole_here x k done count some few h = let parts = (whole_within x k done count some few h).0 in omega arith
+
+pub whole_chunks : (x k done count : ℕ) → 1 ≤ count → count ≤ x / k - done → done + count ≤ div_ceil x k
+whole_chunks x k done count few h = omega arith
+
+pub short_few : (x k done group : ℕ) → group ≤ 16 → x / k - done < group → done ≤ x / k → div_ceil x k - done ≤ group
+short_few x k done group few h begun = omega arith
+
+pub short_here : (x k done : ℕ) → 1 ≤ k → done ≤ div_ceil x k → x - done * k ≡ min ((div_ceil x k - done) * k) (x - done * k)
+short_here x k done some h =
+    let all : x ≤ div_ceil x k * k = (div_ceil_times x k some).0 in
+    let parts : (done + (div_ceil x k - done)) * k ≡ done * k + (div_ceil x k - done) * k = both_parts done (div_ceil x k - done) k in
+    let whole : (done + (div_ceil x k - done)) * k ≡ div_ceil x k * k = ap (λ t. t * k) (omega arith) in
+    omega arith
+
+-- ---- groups by turns
+
+pub turn_fits : (whole group turn : ℕ) → turn < whole / group → turn * group + group ≤ whole
+turn_fits whole group turn h =
+    let all : whole / group * group + whole % group ≡ whole = div-add-mod' whole group in
+    let fits : turn * group + group ≤ whole / group * group = row_fits turn group (whole / group) group h (omega arith) in
+    omega arith
+
+pub turn_room : (whole group turn : ℕ) → turn < whole / group → group ≤ whole - turn * group
+turn_room whole group turn h = let fits = turn_fits whole group turn h in omega arith
+
+pub turns_rest : (whole group : ℕ) → 1 ≤ group → (whole / group * group ≤ whole) × (whole - whole / group * group < group)
+turns_rest whole group some =
+    let all : whole / group * group + whole % group ≡ whole = div-add-mod' whole group in
+    let few : whole % group < group = mod_below whole group some in
+    (omega arith, omega arith)
+
+pub next_turn : (turn group : ℕ) → turn * group + group ≡ (turn + 1) * group
+next_turn turn group = grind arith
+
+pub turns_end : (turn last : ℕ) → turn ≤ last → last ≤ turn → turn ≡ last
+turns_end turn last h l = omega arith

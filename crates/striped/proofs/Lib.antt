@@ -1,3 +1,4 @@
+pub mod ByteLemmas
 pub mod ChunkLemmas
 pub mod GroupLemmas
 pub mod LayoutLemmas

@@ -1,6 +1,7 @@
 //! A sector in chunks, each kept by a code in a row of cells that is spread over the pages of a unit.
 #![tactic(auto)]
 
+mod bytes;
 mod chunks;
 mod groups;
 mod rows;

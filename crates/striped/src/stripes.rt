@@ -128,6 +128,7 @@ impl<F: FromBlank<K, M>, S: PackedCode<K, N>, const K: usize, const M: usize, co
             layout_of(K, M, M, self.sector_bytes),
             page,
             sector,
+            true,
         ) {
             Carry::Carried => {}
             Carry::Declined => unreachable!(),

@@ -1,6 +1,7 @@
 pub mod CountLemmas
 pub mod FlipLemmas
 pub mod FrontLemmas
+pub mod GroupLemmas
 pub mod OneWord
 pub mod PackedLemmas
 pub mod PlainLemmas

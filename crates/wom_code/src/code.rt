@@ -1,9 +1,12 @@
 //! What a code promises: `over` charges cells so that they carry the message, and declines exactly
 //! where no cells above the old ones do. The codes know nothing of pages, sectors or dies.
 
-ghost use Rattle.std.specs.Prelude.{◌≡◌, ℕ, ◌≤◌, List, Bool, length};
+ghost use Rattle.std.specs.Prelude.{◌≡◌, ℕ, ◌*◌, ◌≤◌, ◌<◌, ◌^◌, List, Bool, length, IfSome, IfNone};
 ghost use Rattle.wom_code.specs.Cells.{Carries, NoneCarries};
+ghost use Rattle.wom_code.specs.Groups.{chunk_of};
 ghost use Rattle.wom_code.specs.Packed.{IsRow, cells_of, words_for};
+
+use crate::groups::{bits_from, word_of};
 
 /// Whether a message went over the old cells.
 #[derive(Clone, Copy, Debug, PartialEq, Eq)]
@@ -62,6 +65,50 @@ pub trait PackedCode<const K: usize, const N: usize>: WomCode<K, N> {
         ensures declined { result ≡ Carry.Declined → NoneCarries (Self.decoding self.old) N (cells_of N old.now) (cells_of K msg.now) }
         ensures kept { result ≡ Carry.Declined → out.new ≡ out.old }
         ensures same_code { (cells : List Bool) → Self.decoding self.new cells ≡ Self.decoding self.old cells };
+
+    /// `decode` on up to sixteen chunks side by side in one word: chunk `j` has the `N` cells from bit `j * N` on,
+    /// and its message stands in the `K` bits from bit `j * K` on.
+    fn decode_group(&self, count: usize, cells: u64) -> u64
+        requires some_bits { 1 ≤ K }
+        requires some_cells { 1 ≤ N }
+        requires few { count ≤ 16 }
+        requires messages { count * K ≤ 64 }
+        requires cells { count * N ≤ 64 }
+        ensures { (j : ℕ) → j < count → chunk_of K result j ≡ Self.decoding self.now (chunk_of N cells j) }
+    {
+        let mut messages = 0;
+        for j in 0..count {
+            let mut message = [0];
+            self.decode_words(&[bits_from(cells, j * N, N)], &mut message);
+            messages |= word_of(&message, K) << (j * K);
+        }
+        messages
+    }
+
+    /// `over` on up to sixteen chunks side by side in one word, or None where one of them does not take its message.
+    fn over_group(&mut self, count: usize, cells: u64, messages: u64) -> Option<u64>
+        requires some_bits { 1 ≤ K }
+        requires some_cells { 1 ≤ N }
+        requires few { count ≤ 16 }
+        requires messages { count * K ≤ 64 }
+        requires cells { count * N ≤ 64 }
+        ensures carried { IfSome result (λ new. (j : ℕ) → j < count → Carries (Self.decoding self.old) (chunk_of N cells j) (chunk_of K messages j) (chunk_of N new j)) }
+        ensures narrow { IfSome result (λ new. new < 2 ^ (count * N)) }
+        ensures declined { IfNone result ((j : ℕ) × (j < count) × NoneCarries (Self.decoding self.old) N (chunk_of N cells j) (chunk_of K messages j)) }
+        ensures same_code { (row : List Bool) → Self.decoding self.new row ≡ Self.decoding self.old row }
+    {
+        let mut new = 0;
+        for j in 0..count {
+            let mut out = [0];
+            let old = bits_from(cells, j * N, N);
+            let message = bits_from(messages, j * K, K);
+            match self.over_words(&[old], &[message], &mut out) {
+                Carry::Declined => return None,
+                Carry::Carried => new |= word_of(&out, N) << (j * N),
+            }
+        }
+        Some(new)
+    }
 }
 
 /// A code that takes every message over blank cells.

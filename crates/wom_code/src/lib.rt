@@ -4,6 +4,7 @@
 mod code;
 mod flip;
 mod front;
+mod groups;
 mod plain;
 mod turned;
 mod words;

@@ -1,86 +1,77 @@
 -- One more group: the earlier chunks keep their cells, and the later ones still have the old cells.
-use Rattle.std.proofs.Common.{◌≡◌, ℕ, ◌+◌, ◌*◌, ◌≤◌, length, ◌∙◌, ap, arith}
-use Rattle.std.proofs.lemmas.Nat.{mul-le}
-use Rattle.cell_bits.proofs.Above.{above_trans}
-use Rattle.striped.specs.Striping.{striping, page_bytes}
+use Rattle.std.proofs.Common.{◌≡◌, ℕ, ◌+◌, ◌-◌, ◌*◌, ◌/◌, ◌≤◌, min, Bool, List, length, ◌∙◌, ap₂, sym, subst, refl, arith}
+use Rattle.striped.specs.Striping.{Striping, striping, chunks, page_bytes}
+use Rattle.striped.specs.Writes.{striping_of, WritesChunks}
+use Rattle.striped.specs.declared.chunks.Layout.{Layout}
 use Rattle.striped.proofs.ChunkLemmas.{start_below}
-use Rattle.striped.proofs.GroupLemmas.{one_span, both_parts, some_product, group_within, group_declined, group_carried, group_above, IsGroup}
+use Rattle.striped.proofs.GroupLemmas.{IsBegun, one_span, group_within, begun_more, begun_declines, whole_within, whole_here, whole_chunks, short_here, turn_room, turns_rest, next_turn, turns_end}
 use Rattle.striped.proofs.groups.write_groups.Goals as goal
 
-le_self : (t : ℕ) → t ≤ t
-le_self t = omega arith
+room : (s : Striping) (n done count bytes span size : ℕ) → s.page_cells ≡ n → 1 ≤ count → done + count ≤ chunks s → bytes ≡ span * size → span ≡ 1 → size ≡ page_bytes s → done * n + count * n ≤ 8 * bytes
+room s n done count bytes span size e some h long one page =
+    let fits : done * n + count * n ≤ 8 * page_bytes s = group_within s n done count e some h in
+    let whole : size ≡ bytes = one_span bytes span size long one in
+    omega arith
 
-pub take_bits-cells-requires-clause-within : goal.take_bits-cells-requires-clause-within
-take_bits-cells-requires-clause-within g c =
-    let fits : c.loop-done.done * g.row.N + c.min-count.result * g.row.N ≤ 8 * page_bytes (striping g.row.K c.args.layout.page_cells g.row.N (length c.args.sector.now)) =
-    group_within (striping g.row.K c.args.layout.page_cells g.row.N (length c.args.sector.now)) g.row.N c.loop-done.done c.min-count.result
-    (one_span g.row.N c.args.layout.span c.args.layout.page_cells c.requires.layout.spans c.requires.one_page) (omega arith) (omega (arith, c.requires.layout.chunks_are)) in
-    let whole : c.args.layout.page_bytes ≡ length c.args.bytes.now = one_span (length c.args.bytes.now) c.args.layout.span c.args.layout.page_bytes c.requires.bytes c.requires.one_page in
-    omega (arith, c.requires.layout.page_is, c.loop-done.auto.bytes)
+-- where all chunks are done
+written : (layout : Layout) (k n done : ℕ) (decode : List Bool → List Bool) (old new sector : List ℕ) → layout.page_cells ≡ n → done ≡ layout.chunks → layout.chunks ≡ chunks (striping_of layout k n sector) →
+    IsBegun (striping_of layout k n sector) n done decode old new sector → WritesChunks layout k n decode old new sector
+written layout k n done decode old new sector cells all chunks b = record {
+  carried = λ i h. b.carried i (omega arith);
+  above = b.above;
+  rest = λ page c h l. let used : layout.chunks * layout.page_cells ≡ done * n = ap₂ (λ (x y : ℕ). x * y) (sym all) cells in b.rest (8 * layout.page_bytes * page + c) (omega arith);
+}
 
-pub take_messages-messages-requires-clause-starts :
-    goal.take_messages-messages-requires-clause-starts
-take_messages-messages-requires-clause-starts g c = start_below (8 * length c.args.sector.now) g.row.K c.loop-done.done c.requires.layout.some_bits (omega (arith, c.requires.layout.chunks_are))
+pub write_group-requires-clause-within : goal.write_group-requires-clause-within
+write_group-requires-clause-within g c =
+    room (striping g.row.K c.args.layout.page_cells g.row.N (length c.args.sector.now)) g.row.N (c.loop-turn.turn * c.group_of-group.result) c.group_of-group.result (length c.loop-turn.bytes) c.args.layout.span c.args.layout.page_bytes (one_span g.row.N c.args.layout.span c.args.layout.page_cells c.requires.layout.spans c.requires.one_page)
+    c.group_of-group.ensures.some (whole_chunks (8 * length c.args.sector.now) g.row.K (c.loop-turn.turn * c.group_of-group.result) c.group_of-group.result c.group_of-group.ensures.some (turn_room (8 * length c.args.sector.now / g.row.K) c.group_of-group.result c.loop-turn.turn c.loop-turn-test.true)) (c.loop-turn.auto.bytes ∙ c.requires.bytes) c.requires.one_page c.requires.layout.page_is
 
-pub take_messages-messages-requires-clause-some : goal.take_messages-messages-requires-clause-some
-take_messages-messages-requires-clause-some g c = some_product c.min-count.result g.row.K (omega arith) c.requires.layout.some_bits
+pub write_group-requires-clause-here : goal.write_group-requires-clause-here
+write_group-requires-clause-here g c = whole_here (8 * length c.args.sector.now) g.row.K (c.loop-turn.turn * c.group_of-group.result) c.group_of-group.result c.requires.layout.some_bits c.group_of-group.ensures.some (turn_room (8 * length c.args.sector.now / g.row.K) c.group_of-group.result c.loop-turn.turn c.loop-turn-test.true)
 
-pub returns-in-None-clause-declined : goal.returns-in-None-clause-declined
-returns-in-None-clause-declined g c = λ answer.
-    let none = c.in-None.ensures.declined in (
-      c.loop-done.done + none.0,
-      omega (arith, none.1, c.requires.layout.chunks_are),
-      group_declined (striping g.row.K c.args.layout.page_cells g.row.N (length c.args.sector.now)) g.row.N c.loop-done.done c.min-count.result none.0
-          (g.C.WomCode.decoding c.loop-done.code) (g.C.WomCode.decoding c.args.code.now) c.args.bytes.now c.args.sector.now c.take_bits-cells.result c.take_messages-messages.result
-          (one_span g.row.N c.args.layout.span c.args.layout.page_cells c.requires.layout.spans c.requires.one_page) none.1
-          (λ i h. c.take_bits-cells.ensures.bits i h ∙ c.loop-done.invariant.rest (c.loop-done.done * g.row.N + i) (omega arith))
-          c.take_messages-messages.ensures c.loop-done.invariant.code none.2,
-    )
+pub write_group-requires-clause-starts : goal.write_group-requires-clause-starts
+write_group-requires-clause-starts g c = (whole_within (8 * length c.args.sector.now) g.row.K (c.loop-turn.turn * c.group_of-group.result) c.group_of-group.result c.requires.layout.some_bits c.group_of-group.ensures.some (turn_room (8 * length c.args.sector.now / g.row.K) c.group_of-group.result c.loop-turn.turn c.loop-turn-test.true)).1
 
-pub put_bits-requires-clause-some : goal.put_bits-requires-clause-some
-put_bits-requires-clause-some g c = some_product c.min-count.result g.row.N (omega arith) (omega (arith, c.requires.layout.some_bits))
+pub returns-in-Declined-clause-declined : goal.returns-in-Declined-clause-declined
+returns-in-Declined-clause-declined g c = λ answer.
+    begun_declines (striping g.row.K c.args.layout.page_cells g.row.N (length c.args.sector.now)) g.row.N (c.loop-turn.turn * c.group_of-group.result) c.group_of-group.result (g.C.WomCode.decoding c.loop-turn.code) (g.C.WomCode.decoding c.args.code.now) c.args.bytes.now c.loop-turn.bytes c.args.sector.now (one_span g.row.N c.args.layout.span c.args.layout.page_cells c.requires.layout.spans c.requires.one_page) c.loop-turn.invariant.code
+    (whole_chunks (8 * length c.args.sector.now) g.row.K (c.loop-turn.turn * c.group_of-group.result) c.group_of-group.result c.group_of-group.ensures.some (turn_room (8 * length c.args.sector.now / g.row.K) c.group_of-group.result c.loop-turn.turn c.loop-turn-test.true)) c.loop-turn.invariant.begun (c.in-Declined.ensures.declined refl)
 
-pub put_bits-requires-clause-within : goal.put_bits-requires-clause-within
-put_bits-requires-clause-within g c =
-    let fits : c.loop-done.done * g.row.N + c.min-count.result * g.row.N ≤ 8 * page_bytes (striping g.row.K c.args.layout.page_cells g.row.N (length c.args.sector.now)) =
-    group_within (striping g.row.K c.args.layout.page_cells g.row.N (length c.args.sector.now)) g.row.N c.loop-done.done c.min-count.result
-    (one_span g.row.N c.args.layout.span c.args.layout.page_cells c.requires.layout.spans c.requires.one_page) (omega arith) (omega (arith, c.requires.layout.chunks_are)) in
-    let whole : c.args.layout.page_bytes ≡ length c.args.bytes.now = one_span (length c.args.bytes.now) c.args.layout.span c.args.layout.page_bytes c.requires.bytes c.requires.one_page in
-    omega (arith, c.requires.layout.page_is, c.loop-done.auto.bytes)
+pub loop-turn-preserved : goal.loop-turn-preserved
+loop-turn-preserved g c = record {
+  code = λ row. c.write_group.ensures.same_code row ∙ c.loop-turn.invariant.code row;
+  begun = subst (λ d. IsBegun (striping g.row.K c.args.layout.page_cells g.row.N (length c.args.sector.now)) g.row.N d (g.C.WomCode.decoding c.args.code.now) c.args.bytes.now c.write_group.new.bytes c.args.sector.now) (next_turn c.loop-turn.turn c.group_of-group.result) (begun_more (striping g.row.K c.args.layout.page_cells g.row.N (length c.args.sector.now)) g.row.N (c.loop-turn.turn * c.group_of-group.result) c.group_of-group.result (g.C.WomCode.decoding c.loop-turn.code) (g.C.WomCode.decoding c.args.code.now) c.args.bytes.now c.loop-turn.bytes c.write_group.new.bytes c.args.sector.now (one_span g.row.N c.args.layout.span c.args.layout.page_cells c.requires.layout.spans c.requires.one_page)
+      (omega (arith, c.requires.layout.some_bits)) c.loop-turn.invariant.code c.loop-turn.invariant.begun (c.in-Carried.ensures.written refl));
+}
 
-pub loop-done-preserved : goal.loop-done-preserved
-loop-done-preserved g c =
-    let page : c.args.layout.page_cells ≡ g.row.N = one_span g.row.N c.args.layout.span c.args.layout.page_cells c.requires.layout.spans c.requires.one_page in
-    let w : IsGroup g.row.N g.row.K c.loop-done.done c.min-count.result c.loop-done.bytes c.put_bits.new.row c.args.sector.now c.take_bits-cells.result c.take_messages-messages.result c.in-Some.new = record {
-      same_length = c.put_bits.auto.row;
-      taken = c.take_bits-cells.ensures.bits;
-      told = c.take_messages-messages.ensures;
-      put = c.put_bits.ensures.bits;
-      below = c.put_bits.ensures.below;
-      above = c.put_bits.ensures.above;
-    } in
-    record {
-      within = omega arith;
-      code = λ row. c.over_group.ensures.same_code row ∙ c.loop-done.invariant.code row;
-      carried = group_carried (striping g.row.K c.args.layout.page_cells g.row.N (length c.args.sector.now)) g.row.N c.loop-done.done c.min-count.result
-          (g.C.WomCode.decoding c.loop-done.code) (g.C.WomCode.decoding c.args.code.now) c.loop-done.bytes c.put_bits.new.row c.args.sector.now
-          c.take_bits-cells.result c.take_messages-messages.result c.in-Some.new w page c.in-Some.ensures.carried c.loop-done.invariant.code c.loop-done.invariant.carried;
-      above = above_trans c.put_bits.new.row c.loop-done.bytes c.args.bytes.now
-          (group_above g.row.N g.row.K c.loop-done.done c.min-count.result c.loop-done.bytes c.put_bits.new.row c.args.sector.now c.take_bits-cells.result c.take_messages-messages.result c.in-Some.new
-          (g.C.WomCode.decoding c.loop-done.code) (omega (arith, c.requires.layout.some_bits)) w c.in-Some.ensures.carried)
-          c.loop-done.invariant.above;
-      rest = λ n h.
-          let parts = both_parts c.loop-done.done c.min-count.result g.row.N in
-          c.put_bits.ensures.above n (omega arith) ∙ c.loop-done.invariant.rest n (omega arith);
-    }
+pub write_group-requires-then-done-layout-clause-within : goal.write_group-requires-then-done-layout-clause-within
+write_group-requires-then-done-layout-clause-within g c =
+    room (striping g.row.K c.args.layout.page_cells g.row.N (length c.args.sector.now)) g.row.N ((8 * length c.args.sector.now / g.row.K) / c.group_of-group.result * c.group_of-group.result) (c.args.layout.chunks - ((8 * length c.args.sector.now / g.row.K) / c.group_of-group.result * c.group_of-group.result)) (length c.loop-turn.bytes) c.args.layout.span c.args.layout.page_bytes (one_span g.row.N c.args.layout.span c.args.layout.page_cells c.requires.layout.spans c.requires.one_page)
+    (omega (arith, c.if-done-layout.true)) (omega (arith, c.if-done-layout.true, c.requires.layout.chunks_are)) (c.loop-turn.auto.bytes ∙ c.requires.bytes) c.requires.one_page c.requires.layout.page_is
+
+pub write_group-requires-then-done-layout-clause-starts : goal.write_group-requires-then-done-layout-clause-starts
+write_group-requires-then-done-layout-clause-starts g c = start_below (8 * length c.args.sector.now) g.row.K ((8 * length c.args.sector.now / g.row.K) / c.group_of-group.result * c.group_of-group.result) c.requires.layout.some_bits (omega (arith, c.if-done-layout.true, c.requires.layout.chunks_are))
+
+pub write_group-requires-then-done-layout-clause-here : goal.write_group-requires-then-done-layout-clause-here
+write_group-requires-then-done-layout-clause-here g c =
+    subst (λ n. (8 * length c.args.sector.now) - ((8 * length c.args.sector.now / g.row.K) / c.group_of-group.result * c.group_of-group.result) * g.row.K ≡ min ((n - ((8 * length c.args.sector.now / g.row.K) / c.group_of-group.result * c.group_of-group.result)) * g.row.K) ((8 * length c.args.sector.now) - ((8 * length c.args.sector.now / g.row.K) / c.group_of-group.result * c.group_of-group.result) * g.row.K)) (sym c.requires.layout.chunks_are)
+    (short_here (8 * length c.args.sector.now) g.row.K ((8 * length c.args.sector.now / g.row.K) / c.group_of-group.result * c.group_of-group.result) c.requires.layout.some_bits (omega (arith, c.if-done-layout.true, c.requires.layout.chunks_are)))
+
+pub returns-then-done-layout-clause-written : goal.returns-then-done-layout-clause-written
+returns-then-done-layout-clause-written g c = λ answer.
+    let last : IsBegun (striping g.row.K c.args.layout.page_cells g.row.N (length c.args.sector.now)) g.row.N (((8 * length c.args.sector.now / g.row.K) / c.group_of-group.result * c.group_of-group.result) + (c.args.layout.chunks - ((8 * length c.args.sector.now / g.row.K) / c.group_of-group.result * c.group_of-group.result))) (g.C.WomCode.decoding c.args.code.now) c.args.bytes.now c.write_group-then-done-layout.new.bytes c.args.sector.now =
+    begun_more (striping g.row.K c.args.layout.page_cells g.row.N (length c.args.sector.now)) g.row.N ((8 * length c.args.sector.now / g.row.K) / c.group_of-group.result * c.group_of-group.result) (c.args.layout.chunks - ((8 * length c.args.sector.now / g.row.K) / c.group_of-group.result * c.group_of-group.result)) (g.C.WomCode.decoding c.loop-turn.code) (g.C.WomCode.decoding c.args.code.now) c.args.bytes.now c.loop-turn.bytes c.write_group-then-done-layout.new.bytes c.args.sector.now (one_span g.row.N c.args.layout.span c.args.layout.page_cells c.requires.layout.spans c.requires.one_page)
+    (omega (arith, c.requires.layout.some_bits)) c.loop-turn.invariant.code (subst (λ t. IsBegun (striping g.row.K c.args.layout.page_cells g.row.N (length c.args.sector.now)) g.row.N (t * c.group_of-group.result) (g.C.WomCode.decoding c.args.code.now) c.args.bytes.now c.loop-turn.bytes c.args.sector.now) (turns_end c.loop-turn.turn ((8 * length c.args.sector.now / g.row.K) / c.group_of-group.result) c.loop-turn.auto.turn-end c.loop-turn-test.false) c.loop-turn.invariant.begun) (c.write_group-then-done-layout.ensures.written answer) in
+    written c.args.layout g.row.K g.row.N (((8 * length c.args.sector.now / g.row.K) / c.group_of-group.result * c.group_of-group.result) + (c.args.layout.chunks - ((8 * length c.args.sector.now / g.row.K) / c.group_of-group.result * c.group_of-group.result))) (g.C.WomCode.decoding c.args.code.now) c.args.bytes.now c.write_group-then-done-layout.new.bytes c.args.sector.now (one_span g.row.N c.args.layout.span c.args.layout.page_cells c.requires.layout.spans c.requires.one_page)
+    (omega (arith, c.if-done-layout.true)) c.requires.layout.chunks_are last
+
+pub returns-then-done-layout-clause-declined : goal.returns-then-done-layout-clause-declined
+returns-then-done-layout-clause-declined g c = λ answer.
+    begun_declines (striping g.row.K c.args.layout.page_cells g.row.N (length c.args.sector.now)) g.row.N ((8 * length c.args.sector.now / g.row.K) / c.group_of-group.result * c.group_of-group.result) (c.args.layout.chunks - ((8 * length c.args.sector.now / g.row.K) / c.group_of-group.result * c.group_of-group.result)) (g.C.WomCode.decoding c.loop-turn.code) (g.C.WomCode.decoding c.args.code.now) c.args.bytes.now c.loop-turn.bytes c.args.sector.now (one_span g.row.N c.args.layout.span c.args.layout.page_cells c.requires.layout.spans c.requires.one_page) c.loop-turn.invariant.code
+    (omega (arith, c.if-done-layout.true, c.requires.layout.chunks_are)) (subst (λ t. IsBegun (striping g.row.K c.args.layout.page_cells g.row.N (length c.args.sector.now)) g.row.N (t * c.group_of-group.result) (g.C.WomCode.decoding c.args.code.now) c.args.bytes.now c.loop-turn.bytes c.args.sector.now) (turns_end c.loop-turn.turn ((8 * length c.args.sector.now / g.row.K) / c.group_of-group.result) c.loop-turn.auto.turn-end c.loop-turn-test.false) c.loop-turn.invariant.begun) (c.write_group-then-done-layout.ensures.declined answer)
 
 pub returns-clause-written : goal.returns-clause-written
-returns-clause-written g c = λ answer. record {
-  carried = λ i h. c.loop-done.invariant.carried i (omega (arith, c.requires.layout.chunks_are));
-  above = c.loop-done.invariant.above;
-  rest = λ page n h l.
-      let cells : c.args.layout.page_cells ≡ g.row.N = one_span g.row.N c.args.layout.span c.args.layout.page_cells c.requires.layout.spans c.requires.one_page in
-      let all : c.args.layout.chunks * c.args.layout.page_cells ≡ c.args.layout.chunks * g.row.N = ap (λ m. c.args.layout.chunks * m) cells in
-      let few : c.loop-done.done * g.row.N ≤ c.args.layout.chunks * g.row.N = mul-le c.loop-done.done g.row.N c.args.layout.chunks g.row.N (omega arith) (le_self g.row.N) in
-      c.loop-done.invariant.rest (8 * c.args.layout.page_bytes * page + n) (omega arith);
-}
+returns-clause-written g c = λ answer.
+    written c.args.layout g.row.K g.row.N ((8 * length c.args.sector.now / g.row.K) / c.group_of-group.result * c.group_of-group.result) (g.C.WomCode.decoding c.args.code.now) c.args.bytes.now c.loop-turn.bytes c.args.sector.now (one_span g.row.N c.args.layout.span c.args.layout.page_cells c.requires.layout.spans c.requires.one_page)
+    (let e = c.if-done-layout.false in let w = (turns_rest (8 * length c.args.sector.now / g.row.K) c.group_of-group.result c.group_of-group.ensures.some).0 in omega (arith, c.requires.layout.chunks_are)) c.requires.layout.chunks_are (subst (λ t. IsBegun (striping g.row.K c.args.layout.page_cells g.row.N (length c.args.sector.now)) g.row.N (t * c.group_of-group.result) (g.C.WomCode.decoding c.args.code.now) c.args.bytes.now c.loop-turn.bytes c.args.sector.now) (turns_end c.loop-turn.turn ((8 * length c.args.sector.now / g.row.K) / c.group_of-group.result) c.loop-turn.auto.turn-end c.loop-turn-test.false) c.loop-turn.invariant.begun)

@@ -6,6 +6,8 @@ use Rattle.std.proofs.lemmas.Nat.{pow_pos}
 use Rattle.gf2_solve.specs.Family.{Family}
 use Rattle.coset_code.specs.Code.{IsShape, IsTable}
 use Rattle.coset_code.specs.Coordinates.{HasCoordinates}
+use Rattle.coset_code.specs.declared.turned.Turned.{Turned}
+use Rattle.coset_code.specs.Rows.{IsReady}
 use Rattle.coset_code.proofs.coset.Coset.new.Goals as goal
 
 table_of : (k n : ℕ) (columns : List ℕ) → IsShape k n columns → length columns < 2 ^ 32 → IsTable k n columns
@@ -30,6 +32,9 @@ moved : (columns columns' coords coords' : List ℕ) (full full' : Family) → H
 moved columns columns' coords coords' full full' s e f h =
     subst (λ cs. HasCoordinates cs coords' full') e (subst (λ cs. HasCoordinates columns cs full') f (subst (HasCoordinates columns coords) h s))
 
+moved_ready : (coords coords' : List ℕ) (full full' : Family) (t : Turned) → IsReady coords full t → coords ≡ coords' → full ≡ full' → IsReady coords' full' t
+moved_ready coords coords' full full' t r e f = subst (λ cs. IsReady cs full' t) e (subst (λ h. IsReady coords h t) f r)
+
 pub invariant_of-result : goal.invariant_of-result
 invariant_of-result g c = c.full-2.invariant
 
@@ -47,6 +52,7 @@ invariant_of-result-2 g c =
       system = moved _ _ _ _ _ _ c.take_coordinates-rank.ensures.coordinates held (sym coords_is) (sym c.full-2.view_is);
       rank_is = c.take_coordinates-rank.ensures.rank ∙ ap (λ (f : Family). length f.columns) (sym c.full-2.view_is);
       masked_room = search rules;
+      ready = moved_ready _ _ _ _ _ c.in_ok-turned.ensures c.deref-3.ensures.value (sym c.full-2.view_is);
       old_row = search rules;
       message_row = search rules;
       out_row = search rules;

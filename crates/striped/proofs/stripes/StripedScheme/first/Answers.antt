@@ -16,6 +16,9 @@ write_chunks-requires-clause-bytes g c =
     let some : 1 ≤ g.row.M = omega (arith, c.args.self.now.fitting.some_bits, c.args.self.now.fitting.fits) in
     one_page_bytes g.row.M c.layout_of.result.span c.layout_of.result.page_bytes _ some c.layout_of.ensures.span (c.fill.ensures.len ∙ (c.requires.page ∙ sym page))
 
+pub write_chunks-requires-clause-blank : goal.write_chunks-requires-clause-blank
+write_chunks-requires-clause-blank g c = λ said cell. ap (λ (row : List ℕ). charge_at row cell) (c.fill.ensures.after (λ y e. e)) ∙ blank_cell (length c.args.page.now) cell
+
 pub unreachable-requires : goal.unreachable-requires
 unreachable-requires g c =
     let blank : (cell : ℕ) → charge_at c.fill.new.self cell ≡ 0 = λ cell. ap (λ (row : List ℕ). charge_at row cell) (c.fill.ensures.after (λ y e. e)) ∙ blank_cell (length c.args.page.now) cell in

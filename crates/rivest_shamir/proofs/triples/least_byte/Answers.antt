@@ -1,0 +1,15 @@
+-- The byte's entry in the table.
+use Rattle.std.proofs.Common.{◌*◌, ◌/◌, ◌^◌, ◌<◌, ◌∙◌, ap, bit_and, arith}
+use Rattle.cell_bits.proofs.PieceLemmas.{masked_narrow}
+use Rattle.rivest_shamir.specs.Triples.{least_of}
+use Rattle.rivest_shamir.proofs.ByteTables.{messages_of_byte}
+use Rattle.rivest_shamir.proofs.SpreadLemmas.{least_narrow, least_entry}
+use Rattle.rivest_shamir.proofs.triples.least_byte.Goals as goal
+
+pub returns-clause-least : goal.returns-clause-least
+returns-clause-least c = λ t h.
+    let byte : bit_and (c.args.messages / 2 ^ (8 * c.args.byte)) 255 < 2 ^ 8 = masked_narrow (c.args.messages / 2 ^ (8 * c.args.byte)) 8 255 (omega arith) in
+    least_entry (bit_and (c.args.messages / 2 ^ (8 * c.args.byte)) 255) t byte h ∙ ap least_of (messages_of_byte c.args.messages c.args.byte (8 * c.args.byte) t (omega arith) h)
+
+pub returns-clause-narrow : goal.returns-clause-narrow
+returns-clause-narrow c = least_narrow (bit_and (c.args.messages / 2 ^ (8 * c.args.byte)) 255) (masked_narrow (c.args.messages / 2 ^ (8 * c.args.byte)) 8 255 (omega arith))
