@@ -28,3 +28,12 @@ pub mod ImageRuns
 pub mod LeftCells
 pub mod Completeness
 pub mod Rows
+pub mod CalmLines
+pub mod WorkloadLines
+pub mod HeldRows
+pub mod AnsweredKept
+pub mod PlayedLines
+pub mod BlankDies
+pub mod WornFaults
+pub mod WornDies
+pub mod MadeRuns

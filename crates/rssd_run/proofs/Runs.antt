@@ -28,11 +28,11 @@ unfolding IsRun
 run_more d before [] now e run begins step = (begins ∙ run, step, refl)
 run_more d before (first ∷ events) now e run begins step = (run.0, run.1, run_more d first.after events now e run.2 begins step)
 
-lines_more : (events : List Event) (e : Event) → lines_of (events ++ e ∷ []) ≡ lines_of events ++ e.line ∷ []
+pub lines_more : (events : List Event) (e : Event) → lines_of (events ++ e ∷ []) ≡ lines_of events ++ e.line ∷ []
 lines_more [] e = refl
 lines_more (first ∷ events) e = ap (λ rest. first.line ∷ rest) (lines_more events e)
 
-output_more : (events : List Event) (e : Event) → output_of (events ++ e ∷ []) ≡ output_of events ++ reply_line e.reply
+pub output_more : (events : List Event) (e : Event) → output_of (events ++ e ∷ []) ≡ output_of events ++ reply_line e.reply
 output_more [] e = append-nil (reply_line e.reply)
 output_more (first ∷ events) e = ap (λ rest. reply_line first.reply ++ rest) (output_more events e) ∙ sym (append_assoc (reply_line first.reply) (output_of events) (reply_line e.reply))
 

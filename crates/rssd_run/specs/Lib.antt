@@ -21,3 +21,8 @@ pub mod ImageRuns
 pub mod Top
 pub mod Calm
 pub mod Headline
+pub mod Workloads
+pub mod MakeRuns
+pub mod PlayedRuns
+pub mod WornRuns
+pub mod PairRuns

@@ -1,0 +1,113 @@
+-- A played line more is a played step more, on a device that stands for its views.
+use Rattle.std.proofs.Common.{◌≡◌, ℕ, suc, ◌+◌, Bool, true, false, All, List, [], ◌∷◌, ◌++◌, length, take, Option, refl, sym, ap, ◌∙◌, subst}
+use Rattle.std.specs.Io.KnownBytes.{Appends}
+use Rattle.rssd_io.proofs.Appending.{appends_more, appends_none}
+use Rattle.std.proofs.lemmas.List.Elements.{All-push, All-nil}
+use Rattle.cell_die.specs.DieState.{DieState}
+use Rattle.cell_die.specs.Calls.{IsQuiet, Kept}
+use Rattle.page_codec.specs.Sound.{IsSound}
+use Rattle.page_codec.specs.TrueBook.{IsTrueBook, live_map}
+use Rattle.rssd_core.specs.DeviceValue.{Numbers, DeviceView, DeviceValue, rows_of}
+use Rattle.rssd_core.specs.Outcomes.{TrueWhileRunning}
+use Rattle.rssd_script.specs.declared.lines.Line.{Line}
+use Rattle.rssd_script.specs.declared.replies.Reply.{Reply}
+use Rattle.rssd_script.specs.Replies.{reply_line}
+use Rattle.rssd_run.specs.ArrayWithCuts.{ArrayState, On}
+use Rattle.rssd_run.specs.View.{View, Event, IsOn}
+use Rattle.rssd_run.specs.Held.{Tallies, plus}
+use Rattle.rssd_run.specs.Steps.{ArrayIs}
+use Rattle.rssd_run.specs.Played.{IsPlayedStep, Plays, PlaysQuiet}
+use Rattle.rssd_run.specs.PlayedRuns.{IsPlayedRun, LeavesDie, NeverFaults, PlaysEvents, PlaysOf, PlaysCutOff, StandsPlayed}
+use Rattle.rssd_run.specs.Run.{lines_of, output_of}
+use Rattle.rssd_run.proofs.Runs.{lines_more, output_more}
+
+-- ---- one line
+
+is_on : (stopped : Bool) (rows : List (List ℕ)) (array : ArrayState) → stopped ≡ false → ArrayIs stopped rows array → IsOn array
+is_on false rows array running is = subst IsOn (sym is) tt
+is_on true rows array running is = cc
+
+-- a played line, and what it leaves
+pub record PlayedOne (d : Numbers) (base : Tallies) (new : DeviceValue) (before : View) (line : Line) (reply : Reply) : Type 0 where
+  pub after : View
+  pub stands : StandsPlayed d base new after
+  pub step : IsPlayedStep d (record { line = line; reply = reply; before = before; after = after })
+
+module _ (d : Numbers) (base : Tallies) (old new : DeviceValue) (line : Line) (reply : Reply) where
+  pub played_one : (before : View) → StandsPlayed d base old before → new.numbers ≡ old.numbers → Plays old.numbers line reply old new → PlayedOne d base new before line reply
+  played_one before stands numbers plays =
+      let so = (subst (λ (n : Numbers). Plays n line reply old new) stands.numbers plays) base before stands.shows stands.sound stands.true_book in
+      let same_before : before.device ≡ plus base old.view = stands.shows.0 in
+      let same_after : so.0.device ≡ plus base new.view = so.1.0 in
+      record {
+        after = so.0;
+        stands = record {
+          numbers = numbers ∙ stands.numbers;
+          shows = so.1;
+          sound = subst (λ (v : DeviceView). IsSound d.geometry v.die.cells) same_after
+              (so.2.keeps.sound (subst (λ (v : DeviceView). IsSound d.geometry v.die.cells) (sym same_before) stands.sound));
+          true_book = λ running. subst (λ (v : DeviceView). IsTrueBook d.geometry d.reuse_max v.die.cells v.book (live_map d.geometry v.die.cells) v.seq) same_after
+              (so.2.true_book (is_on new.stopped (rows_of d new.view) so.0.array running so.1.1));
+        };
+        step = so.2;
+      }
+
+-- the die of a view is its device's
+pub stands_die : (d : Numbers) (base : Tallies) (device : DeviceValue) (view : View) → StandsPlayed d base device view → view.device.die ≡ device.view.die
+stands_die d base device view stands = ap (λ (v : DeviceView). v.die) stands.shows.0
+
+-- ---- runs
+
+played_none : (d : Numbers) (view : View) → IsPlayedRun d view [] view
+unfolding IsPlayedRun
+played_none d view = refl
+
+played_more : (d : Numbers) (before : View) (events : List Event) (now : View) (e : Event) → IsPlayedRun d before events now → e.before ≡ now → IsPlayedStep d e → IsPlayedRun d before (events ++ e ∷ []) e.after
+unfolding IsPlayedRun
+played_more d before [] now e run begins step = (begins ∙ run, step, refl)
+played_more d before (first ∷ events) now e run begins step = (run.0, run.1, played_more d first.after events now e run.2 begins step)
+
+module _ (Known : DieState → Type 0) (d : Numbers) (before : View) where
+  pub plays_none : PlaysEvents Known d before [] before
+  plays_none = record { run = played_none d before; dies = All-nil _; quiet = λ quiet. All-nil _ }
+
+  pub plays_more : (events : List Event) (now : View) (e : Event) → PlaysEvents Known d before events now → e.before ≡ now → IsPlayedStep d e → LeavesDie Known before.device.die e
+      → (IsQuiet before.device.die → NeverFaults e) → PlaysEvents Known d before (events ++ e ∷ []) e.after
+  plays_more events now e plays begins step leaves never = record {
+    run = played_more d before events now e plays.run begins step;
+    dies = All-push (LeavesDie Known before.device.die) events e plays.dies leaves;
+    quiet = λ quiet. All-push NeverFaults events e (plays.quiet quiet) (never quiet);
+  }
+
+-- ---- what is given
+
+pub plays_of_none : (Known : DieState → Type 0) (d : Numbers) (view : View) (written : Option (List ℕ)) → PlaysOf Known d view [] view written written
+plays_of_none Known d view written = record { events = []; plays = plays_none Known d view; of_lines = refl; given = appends_none written }
+
+length_lines : (events : List Event) → length (lines_of events) ≡ length events
+length_lines [] = refl
+length_lines (e ∷ events) = ap (λ n. suc n) (length_lines events)
+
+module _ (Known : DieState → Type 0) (d : Numbers) (before now : View) (lines : List Line) (e : Event) (written between written_after : Option (List ℕ)) (r : PlaysOf Known d before lines now written between)
+    (begins : e.before ≡ now) (step : IsPlayedStep d e) (leaves : LeavesDie Known before.device.die e) (never : IsQuiet before.device.die → NeverFaults e) where
+
+  -- one line more, whose text was given
+  pub plays_of_more : Appends between written_after (reply_line e.reply) → PlaysOf Known d before (lines ++ e.line ∷ []) e.after written written_after
+  plays_of_more given = record {
+    events = r.events ++ e ∷ [];
+    plays = plays_more Known d before r.events now e r.plays begins step leaves never;
+    of_lines = lines_more r.events e ∙ ap (λ (ls : List Line). ls ++ e.line ∷ []) r.of_lines;
+    given = rw (output_more r.events e) (appends_more written between written_after (output_of r.events) (reply_line e.reply) r.given given);
+  }
+
+  -- one line more, of whose text a front was given
+  pub plays_cut_off : (all : List Line) → lines ++ e.line ∷ [] ≡ take (length lines + 1) all → (front : ℕ) → Appends between written_after (take front (reply_line e.reply))
+      → PlaysCutOff Known d before all e.after written written_after
+  plays_cut_off all front_is front given = record {
+    events = r.events;
+    last = e;
+    plays = plays_more Known d before r.events now e r.plays begins step leaves never;
+    of_lines = lines_more r.events e ∙ (ap (λ (ls : List Line). ls ++ e.line ∷ []) r.of_lines ∙ (front_is ∙ ap (λ (n : ℕ). take (n + 1) all) (ap (length {A = Line}) (sym r.of_lines) ∙ length_lines r.events)));
+    front = front;
+    given = appends_more written between written_after (output_of r.events) (take front (reply_line e.reply)) r.given given;
+  }
