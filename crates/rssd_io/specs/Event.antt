@@ -1,5 +1,5 @@
 -- What the calls of a source or a sink did, in their order.
-use Rattle.std.specs.Prelude.{◌≡◌, ℕ, ◌+◌, List, [], ◌∷◌, ◌++◌, length, take, drop, flat_map, Option, None, Some, Result, Ok, Err, OnOk, OnErr}
+use Rattle.std.specs.Prelude.{◌≡◌, ℕ, ◌+◌, ◌<◌, List, [], ◌∷◌, ◌++◌, length, take, drop, flat_map, Option, None, Some, Result, Ok, Err, OnOk, OnErr}
 
 -- Some bytes moved; or what waited was handed on; or the call failed.
 abbrev pub Event : Type 0
@@ -51,6 +51,10 @@ since old new = drop (length old) new
 -- what was on record stays, and more may come after it
 abbrev pub Grows : List Event → List Event → Type 0
 Grows old new = (events : List Event) × (new ≡ old ++ events)
+
+-- a call failed since
+abbrev pub HasFailed : List Event → List Event → Type 0
+HasFailed old new = 0 < failures (since old new)
 
 -- one call came, which did this
 abbrev pub Adds : Event → List Event → List Event → Type 0

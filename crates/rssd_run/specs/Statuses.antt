@@ -1,6 +1,6 @@
 -- The statuses of the top call, the lines of refusal, and what a call took of its sources and gave to its sinks.
-use Rattle.std.specs.Prelude.{◌≡◌, ◌⊎◌, ℕ, ◌<◌, ◌++◌, ◌∷◌, List, [], codes, decimal}
-use Rattle.rssd_io.specs.Event.{Event, HasEnded, Grows, bytes_of, failures, since}
+use Rattle.std.specs.Prelude.{◌≡◌, ◌⊎◌, ℕ, ◌++◌, ◌∷◌, List, [], codes, decimal}
+use Rattle.rssd_io.specs.Event.{Event, HasEnded, HasFailed, bytes_of, failures, since}
 use Rattle.rssd_io.specs.Pieces.{HandsOn, StopsIn}
 use Rattle.die_image.specs.declared.error.ImageError.{ImageError}
 use Rattle.die_image.specs.declared.error.ImageError.TheVariants as images
@@ -51,7 +51,7 @@ pub record IsTakenWhole (source : Input) : Type 0 where
 
 -- a take failed
 abbrev pub ReadFailed : Input → Type 0
-ReadFailed source = 0 < failures (takes source)
+ReadFailed source = HasFailed source.before source.after
 
 -- the source was not called
 abbrev pub IsUntouched : Input → Type 0
@@ -77,7 +77,7 @@ GaveLine sink line = Took sink (line ∷ []) ⊎ TookPart sink (line ∷ [])
 
 -- a call of the sink failed
 abbrev pub WriteFailed : Output → Type 0
-WriteFailed sink = 0 < failures (since sink.before sink.after)
+WriteFailed sink = HasFailed sink.before sink.after
 
 -- ---- the lines of refusal
 
