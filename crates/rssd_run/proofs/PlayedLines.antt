@@ -1,7 +1,8 @@
 -- A played line more is a played step more, on a device that stands for its views.
-use Rattle.std.proofs.Common.{◌≡◌, ℕ, suc, ◌+◌, Bool, true, false, All, List, [], ◌∷◌, ◌++◌, length, take, Option, refl, sym, ap, ◌∙◌, subst}
-use Rattle.std.specs.Io.KnownBytes.{Appends}
-use Rattle.rssd_io.proofs.Appending.{appends_more, appends_none}
+use Rattle.std.proofs.Common.{◌≡◌, ℕ, suc, ◌+◌, Bool, true, false, All, List, [], ◌∷◌, ◌++◌, length, take, refl, sym, ap, ◌∙◌, subst, append-nil, append_assoc}
+use Rattle.rssd_io.specs.Event.{Event as Act, moved, failed}
+use Rattle.rssd_io.specs.Pieces.{all_given}
+use Rattle.rssd_io.proofs.Logs.{given_append}
 use Rattle.std.proofs.lemmas.List.Elements.{All-push, All-nil}
 use Rattle.cell_die.specs.DieState.{DieState}
 use Rattle.cell_die.specs.Calls.{IsQuiet, Kept}
@@ -18,8 +19,8 @@ use Rattle.rssd_run.specs.Held.{Tallies, plus}
 use Rattle.rssd_run.specs.Steps.{ArrayIs}
 use Rattle.rssd_run.specs.Played.{IsPlayedStep, Plays, PlaysQuiet}
 use Rattle.rssd_run.specs.PlayedRuns.{IsPlayedRun, LeavesDie, NeverFaults, PlaysEvents, PlaysOf, PlaysCutOff, StandsPlayed}
-use Rattle.rssd_run.specs.Run.{lines_of, output_of}
-use Rattle.rssd_run.proofs.Runs.{lines_more, output_more}
+use Rattle.rssd_run.specs.Run.{lines_of, pieces_of}
+use Rattle.rssd_run.proofs.Runs.{lines_more, pieces_more}
 
 -- ---- one line
 
@@ -81,33 +82,51 @@ module _ (Known : DieState → Type 0) (d : Numbers) (before : View) where
 
 -- ---- what is given
 
-pub plays_of_none : (Known : DieState → Type 0) (d : Numbers) (view : View) (written : Option (List ℕ)) → PlaysOf Known d view [] view written written
-plays_of_none Known d view written = record { events = []; plays = plays_none Known d view; of_lines = refl; given = appends_none written }
+pub plays_of_none : (Known : DieState → Type 0) (d : Numbers) (view : View) (log : List Act) → PlaysOf Known d view [] view log log
+plays_of_none Known d view log = record { events = []; plays = plays_none Known d view; of_lines = refl; given = sym (append-nil log) }
 
 length_lines : (events : List Event) → length (lines_of events) ≡ length events
 length_lines [] = refl
 length_lines (e ∷ events) = ap (λ n. suc n) (length_lines events)
 
-module _ (Known : DieState → Type 0) (d : Numbers) (before now : View) (lines : List Line) (e : Event) (written between written_after : Option (List ℕ)) (r : PlaysOf Known d before lines now written between)
+module _ (Known : DieState → Type 0) (d : Numbers) (before now : View) (lines : List Line) (e : Event) (log between log_after : List Act) (r : PlaysOf Known d before lines now log between)
     (begins : e.before ≡ now) (step : IsPlayedStep d e) (leaves : LeavesDie Known before.device.die e) (never : IsQuiet before.device.die → NeverFaults e) where
 
   -- one line more, whose text was given
-  pub plays_of_more : Appends between written_after (reply_line e.reply) → PlaysOf Known d before (lines ++ e.line ∷ []) e.after written written_after
+  pub plays_of_more : log_after ≡ between ++ moved (reply_line e.reply) ∷ [] → PlaysOf Known d before (lines ++ e.line ∷ []) e.after log log_after
   plays_of_more given = record {
     events = r.events ++ e ∷ [];
     plays = plays_more Known d before r.events now e r.plays begins step leaves never;
     of_lines = lines_more r.events e ∙ ap (λ (ls : List Line). ls ++ e.line ∷ []) r.of_lines;
-    given = rw (output_more r.events e) (appends_more written between written_after (output_of r.events) (reply_line e.reply) r.given given);
+    given = given ∙ (ap (λ (xs : List Act). xs ++ moved (reply_line e.reply) ∷ []) r.given ∙ (append_assoc log (all_given (pieces_of r.events)) (moved (reply_line e.reply) ∷ [])
+        ∙ ap (λ (xs : List Act). log ++ xs) (sym (ap all_given (pieces_more r.events e) ∙ given_append (pieces_of r.events) (reply_line e.reply ∷ [])))));
   }
 
   -- one line more, of whose text a front was given
-  pub plays_cut_off : (all : List Line) → lines ++ e.line ∷ [] ≡ take (length lines + 1) all → (front : ℕ) → Appends between written_after (take front (reply_line e.reply))
-      → PlaysCutOff Known d before all e.after written written_after
+  pub plays_cut_off : (all : List Line) → lines ++ e.line ∷ [] ≡ take (length lines + 1) all → (front : ℕ) → log_after ≡ between ++ moved (take front (reply_line e.reply)) ∷ failed ∷ []
+      → PlaysCutOff Known d before all e.after log log_after
   plays_cut_off all front_is front given = record {
     events = r.events;
     last = e;
     plays = plays_more Known d before r.events now e r.plays begins step leaves never;
     of_lines = lines_more r.events e ∙ (ap (λ (ls : List Line). ls ++ e.line ∷ []) r.of_lines ∙ (front_is ∙ ap (λ (n : ℕ). take (n + 1) all) (ap (length {A = Line}) (sym r.of_lines) ∙ length_lines r.events)));
     front = front;
-    given = appends_more written between written_after (output_of r.events) (take front (reply_line e.reply)) r.given given;
+    given = given ∙ (ap (λ (xs : List Act). xs ++ moved (take front (reply_line e.reply)) ∷ failed ∷ []) r.given
+        ∙ append_assoc log (all_given (pieces_of r.events)) (moved (take front (reply_line e.reply)) ∷ failed ∷ []));
   }
+
+-- ---- the dies that lines leave
+
+module _ (Known : DieState → Type 0) (d : Numbers) (base : Tallies) (first now new : DeviceValue) (before between : View) (line : Line) (reply : Reply) (one : PlayedOne d base new between line reply) where
+  pub leaves_die : StandsPlayed d base first before → Kept first.view.die new.view.die → Known new.view.die → LeavesDie Known before.device.die (record { line = line; reply = reply; before = between; after = one.after })
+  leaves_die stands kept known =
+      let here : one.after.device.die ≡ new.view.die = stands_die d base new one.after one.stands in
+      let there : before.device.die ≡ first.view.die = stands_die d base first before stands in
+      record {
+        shape = ap (λ (die : DieState). die.shape) here ∙ (kept.shape ∙ ap (λ (die : DieState). die.shape) (sym there));
+        fixed = ap (λ (die : DieState). die.fixed) here ∙ (kept.fixed ∙ ap (λ (die : DieState). die.fixed) (sym there));
+        known = subst Known (sym here) known;
+      }
+
+  pub never_faults : StandsPlayed d base first before → (IsQuiet first.view.die → IsQuiet now.view.die) → PlaysQuiet reply now new → IsQuiet before.device.die → NeverFaults (record { line = line; reply = reply; before = between; after = one.after })
+  never_faults stands quiet_so_far quiet is_quiet = quiet.no_fault (quiet_so_far (subst IsQuiet (stands_die d base first before stands) is_quiet))

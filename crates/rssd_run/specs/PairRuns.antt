@@ -1,11 +1,12 @@
 -- Runs of lines that are played on two dies in memory as one.
-use Rattle.std.specs.Prelude.{◌≡◌, ℕ, ◌/◌, List, [], ◌∷◌, ◌++◌, All, Option, refl}
+use Rattle.std.specs.Prelude.{◌≡◌, ℕ, ◌/◌, List, [], ◌∷◌, ◌++◌, All, refl}
 use Rattle.cell_die.specs.declared.shape.Shape.{Shape}
 use Rattle.cell_die.specs.DieState.{DieState}
 use Rattle.mem_die.specs.MemState.{IsNew}
 use Rattle.stripe_die.specs.Pair.{pair_state}
 use Rattle.die_image.specs.declared.head.ImageHead.{ImageHead}
 use Rattle.die_image.specs.Image.{shape_of}
+use Rattle.rssd_io.specs.Event.{Event as Act}
 use Rattle.rssd_script.specs.declared.lines.Line.{Line}
 use Rattle.rssd_script.specs.declared.replies.Reply.TheVariants.{Fault, Off as SaysOff}
 use Rattle.rssd_run.specs.View.{Event}
@@ -33,17 +34,17 @@ pub record NeverRefuses (e : Event) : Type 0 where
   pub no_off : e.reply ≡ SaysOff → ⊥
 
 -- the lines were played on two such dies
-pub record PlaysPair (head : ImageHead) (lines : List Line) (written written_after : Option (List ℕ)) : Type 0 where
+pub record PlaysPair (head : ImageHead) (lines : List Line) (log log_after : List Act) : Type 0 where
   pub die : DieState
   pub new : IsNewPair head die
-  pub plays : PlaysOn IsPair head die lines written written_after
+  pub plays : PlaysOn IsPair head die lines log log_after
   pub never : All NeverRefuses plays.run.events
 
 -- the first of them were, up to the one whose reply was not given whole
-pub record PlaysPairFront (head : ImageHead) (lines : List Line) (written written_after : Option (List ℕ)) : Type 0 where
+pub record PlaysPairFront (head : ImageHead) (lines : List Line) (log log_after : List Act) : Type 0 where
   pub die : DieState
   pub new : IsNewPair head die
-  pub plays : PlaysFrontOn IsPair head die lines written written_after
+  pub plays : PlaysFrontOn IsPair head die lines log log_after
   pub never : All NeverRefuses (plays.run.events ++ plays.run.last ∷ [])
 
 -- what is known of such a die

@@ -1,9 +1,10 @@
 -- Runs of lines that are played on a die whose erases go bad, and which replaces its bad blocks.
-use Rattle.std.specs.Prelude.{◌≡◌, ℕ, ◌+◌, ◌-◌, ◌<◌, ◌≤◌, List, [], ◌∷◌, ◌++◌, All, Option, refl}
+use Rattle.std.specs.Prelude.{◌≡◌, ℕ, ◌+◌, ◌-◌, ◌<◌, ◌≤◌, List, [], ◌∷◌, ◌++◌, All, refl}
 use Rattle.cell_die.specs.Cells.{blank_page}
 use Rattle.cell_die.specs.DieState.{DieState, IsShaped, page_count, page_bytes, page_of}
 use Rattle.die_image.specs.declared.head.ImageHead.{ImageHead}
 use Rattle.die_image.specs.Image.{shape_of}
+use Rattle.rssd_io.specs.Event.{Event as Act}
 use Rattle.rssd_script.specs.declared.lines.Line.{Line}
 use Rattle.rssd_script.specs.declared.replies.Reply.TheVariants.{Fault}
 use Rattle.spare_die.specs.declared.tally.Tally.{Tally}
@@ -63,17 +64,17 @@ pub record FaultsWorn (reserve bad : ℕ) (e : Event) : Type 0 where
   pub never : bad ≡ 0 → e.reply ≡ Fault → ⊥
 
 -- the lines were played on such a die
-pub record PlaysWorn (head : ImageHead) (reserve bad : ℕ) (lines : List Line) (written written_after : Option (List ℕ)) : Type 0 where
+pub record PlaysWorn (head : ImageHead) (reserve bad : ℕ) (lines : List Line) (log log_after : List Act) : Type 0 where
   pub die : DieState
   pub new : IsNewWorn head reserve bad die
-  pub plays : PlaysOn IsWorn head die lines written written_after
+  pub plays : PlaysOn IsWorn head die lines log log_after
   pub faults : All (FaultsWorn reserve bad) plays.run.events
 
 -- the first of them were, up to the one whose reply was not given whole
-pub record PlaysWornFront (head : ImageHead) (reserve bad : ℕ) (lines : List Line) (written written_after : Option (List ℕ)) : Type 0 where
+pub record PlaysWornFront (head : ImageHead) (reserve bad : ℕ) (lines : List Line) (log log_after : List Act) : Type 0 where
   pub die : DieState
   pub new : IsNewWorn head reserve bad die
-  pub plays : PlaysFrontOn IsWorn head die lines written written_after
+  pub plays : PlaysFrontOn IsWorn head die lines log log_after
   pub faults : All (FaultsWorn reserve bad) (plays.run.events ++ plays.run.last ∷ [])
 
 -- what is known of a spare die over a worn one in memory

@@ -3,7 +3,6 @@ ghost use Rattle.std.specs.Prelude.{◌≡◌, ℕ, ◌%◌, true, IfOk, OnOk, I
 ghost use Rattle.std.specs.List.{All};
 ghost use Rattle.die_image.specs.Image.{is_within_limits};
 ghost use Rattle.mem_die.specs.MemState.{mem_state, IsNew};
-ghost use Rattle.rssd_io.specs.Faults.{Rose};
 ghost use Rattle.rssd_run.specs.Played.{IsPlayed};
 ghost use Rattle.rssd_run.specs.PairRuns.{IsPair, IsNewPair, half_shape, pair_known, PlaysPair, PlaysPairFront};
 
@@ -70,9 +69,8 @@ pub fn play_pair<O: Sink>(
     requires within { is_within_limits head.now ≡ true }
     requires even { head.now.blocks % 2 ≡ 0 }
     requires played { All IsPlayed lines.now }
-    ensures done { OnOk result (PlaysPair head.now lines.now (O.written out.old) (O.written out.new)) }
-    ensures front { IsErrOf result RunError.Sink → PlaysPairFront head.now lines.now (O.written out.old) (O.written out.new) }
-    ensures fault { IsErrOf result RunError.Sink → Rose (O.faults out.old) (O.faults out.new) }
+    ensures done { OnOk result (PlaysPair head.now lines.now (O.log out.old) (O.log out.new)) }
+    ensures front { IsErrOf result RunError.Sink → PlaysPairFront head.now lines.now (O.log out.old) (O.log out.new) }
     ensures spare { IsErrOf result RunError.NoSpare → ⊥ }
     ensures memory { IsErrOf result RunError.OutOfMemory → out.new ≡ out.old }
 {

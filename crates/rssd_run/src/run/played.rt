@@ -7,7 +7,6 @@ ghost use Rattle.page_codec.specs.Sound.{IsSound};
 ghost use Rattle.die_image.specs.Image.{is_within_limits, shape_of};
 ghost use Rattle.rssd_core.specs.Mount.{Mounts, MountFails};
 ghost use Rattle.rssd_core.specs.Outcomes.{TrueWhileRunning};
-ghost use Rattle.rssd_io.specs.Faults.{HasCause, Rose};
 ghost use Rattle.rssd_run.specs.Heads.{numbers_named};
 ghost use Rattle.rssd_run.specs.Played.{IsPlayed};
 ghost use Rattle.rssd_run.specs.PlayedRuns.{IsFirstUnplayed, PlaysLines, PlaysInPart, PlaysOn, PlaysFrontOn, IsBlankDie};
@@ -78,9 +77,8 @@ fn play_lines<D: KnownDie + Drop, C: Scheme + Drop, F: KnownDevice<D, C>, O: Sin
 ) -> Result<(), WriteFault>
     requires few_bytes { (F.device ftl.old).numbers.geometry.sector_bytes ≤ 512 }
     requires played { All IsPlayed lines.now }
-    ensures ok { OnOk result (PlaysLines D.known lines.now (F.device ftl.old) (F.device ftl.new) (O.written out.old) (O.written out.new)) }
-    ensures err { OnErr result (PlaysInPart D.known lines.now (F.device ftl.old) (F.device ftl.new) (O.written out.old) (O.written out.new)) }
-    ensures cause { HasCause (O.faults out.old) (O.faults out.new) result }
+    ensures ok { OnOk result (PlaysLines D.known lines.now (F.device ftl.old) (F.device ftl.new) (O.log out.old) (O.log out.new)) }
+    ensures err { OnErr result (PlaysInPart D.known lines.now (F.device ftl.old) (F.device ftl.new) (O.log out.old) (O.log out.new)) }
 {
     for line in lines {
         let Some(reply) = play(ftl, line) else {
@@ -131,9 +129,8 @@ fn play_with<D: KnownDie + Drop, C: Scheme + Drop, F: KnownDevice<D, C>, O: Sink
     requires blank { IsBlankDie head.now (D.state die) }
     requires no_fault { (new : D) → MountFails (numbers_named head.now) (D.state die) (D.state new) → ⊥ }
     requires played { All IsPlayed lines.now }
-    ensures done { OnOk result (PlaysOn D.known head.now (D.state die) lines.now (O.written out.old) (O.written out.new)) }
-    ensures front { IsErrOf result RunError.Sink → PlaysFrontOn D.known head.now (D.state die) lines.now (O.written out.old) (O.written out.new) }
-    ensures fault { IsErrOf result RunError.Sink → Rose (O.faults out.old) (O.faults out.new) }
+    ensures done { OnOk result (PlaysOn D.known head.now (D.state die) lines.now (O.log out.old) (O.log out.new)) }
+    ensures front { IsErrOf result RunError.Sink → PlaysFrontOn D.known head.now (D.state die) lines.now (O.log out.old) (O.log out.new) }
     ensures spare { IsErrOf result RunError.NoSpare → ⊥ }
     ensures memory { IsErrOf result RunError.OutOfMemory → out.new ≡ out.old }
 {
@@ -160,9 +157,8 @@ fn play_made<D: KnownDie + Drop, C: Scheme + Drop, O: Sink>(
     requires blank { IsBlankDie head.now (D.state die) }
     requires no_fault { (new : D) → MountFails (numbers_named head.now) (D.state die) (D.state new) → ⊥ }
     requires played { All IsPlayed lines.now }
-    ensures done { OnOk result (PlaysOn D.known head.now (D.state die) lines.now (O.written out.old) (O.written out.new)) }
-    ensures front { IsErrOf result RunError.Sink → PlaysFrontOn D.known head.now (D.state die) lines.now (O.written out.old) (O.written out.new) }
-    ensures fault { IsErrOf result RunError.Sink → Rose (O.faults out.old) (O.faults out.new) }
+    ensures done { OnOk result (PlaysOn D.known head.now (D.state die) lines.now (O.log out.old) (O.log out.new)) }
+    ensures front { IsErrOf result RunError.Sink → PlaysFrontOn D.known head.now (D.state die) lines.now (O.log out.old) (O.log out.new) }
     ensures spare { IsErrOf result RunError.NoSpare → ⊥ }
     ensures memory { IsErrOf result RunError.OutOfMemory → out.new ≡ out.old }
 {
@@ -189,9 +185,8 @@ pub fn play_on<D: KnownDie + Drop, O: Sink>(
     requires blank { IsBlankDie head.now (D.state die) }
     requires no_fault { (new : D) → MountFails (numbers_named head.now) (D.state die) (D.state new) → ⊥ }
     requires played { All IsPlayed lines.now }
-    ensures done { OnOk result (PlaysOn D.known head.now (D.state die) lines.now (O.written out.old) (O.written out.new)) }
-    ensures front { IsErrOf result RunError.Sink → PlaysFrontOn D.known head.now (D.state die) lines.now (O.written out.old) (O.written out.new) }
-    ensures fault { IsErrOf result RunError.Sink → Rose (O.faults out.old) (O.faults out.new) }
+    ensures done { OnOk result (PlaysOn D.known head.now (D.state die) lines.now (O.log out.old) (O.log out.new)) }
+    ensures front { IsErrOf result RunError.Sink → PlaysFrontOn D.known head.now (D.state die) lines.now (O.log out.old) (O.log out.new) }
     ensures spare { IsErrOf result RunError.NoSpare → ⊥ }
     ensures memory { IsErrOf result RunError.OutOfMemory → out.new ≡ out.old }
 {

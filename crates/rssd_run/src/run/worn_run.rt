@@ -4,7 +4,6 @@ ghost use Rattle.std.specs.List.{All};
 ghost use Rattle.cell_die.specs.Calls.{IsQuiet};
 ghost use Rattle.die_image.specs.Image.{is_within_limits, shape_of};
 ghost use Rattle.mem_die.specs.WornState.{worn_state, worn_shaped, bad_erases_of};
-ghost use Rattle.rssd_io.specs.Faults.{Rose};
 ghost use Rattle.rssd_words.specs.Commands.{IsReserve};
 ghost use Rattle.rssd_run.specs.Played.{IsPlayed};
 ghost use Rattle.rssd_run.specs.WornRuns.{IsWorn, IsBlankInner, IsNewWorn, worn_known, PlaysWorn, PlaysWornFront};
@@ -85,9 +84,8 @@ pub fn play_worn<O: Sink>(
     requires within { is_within_limits head.now ≡ true }
     requires reserve { IsReserve head.now reserve }
     requires played { All IsPlayed lines.now }
-    ensures done { OnOk result (PlaysWorn head.now reserve bad lines.now (O.written out.old) (O.written out.new)) }
-    ensures front { IsErrOf result RunError.Sink → PlaysWornFront head.now reserve bad lines.now (O.written out.old) (O.written out.new) }
-    ensures fault { IsErrOf result RunError.Sink → Rose (O.faults out.old) (O.faults out.new) }
+    ensures done { OnOk result (PlaysWorn head.now reserve bad lines.now (O.log out.old) (O.log out.new)) }
+    ensures front { IsErrOf result RunError.Sink → PlaysWornFront head.now reserve bad lines.now (O.log out.old) (O.log out.new) }
     ensures spare { IsErrOf result RunError.NoSpare → ⊥ }
     ensures memory { IsErrOf result RunError.OutOfMemory → out.new ≡ out.old }
 {

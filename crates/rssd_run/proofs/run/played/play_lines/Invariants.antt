@@ -13,6 +13,5 @@ invariant-loop-line g l = record {
   quiet : IsQuiet (g.F.Device.device l.fn.ftl).view.die → IsQuiet (g.F.Device.device l.ftl).view.die;
   runs : (d : Numbers) (base : Tallies) (before : View) → StandsPlayed d base (g.F.Device.device l.fn.ftl) before
       → (now : View) × StandsPlayed d base (g.F.Device.device l.ftl) now
-      × PlaysOf g.D.KnownDie.known d before (take l.line-index l.lines) now (g.O.Sink.written l.fn.out) (g.O.Sink.written l.out);
-  faults : g.O.Sink.faults l.out ≡ g.O.Sink.faults l.fn.out;
+      × PlaysOf g.D.KnownDie.known d before (take l.line-index l.lines) now (g.O.Sink.log l.fn.out) (g.O.Sink.log l.out);
 }
