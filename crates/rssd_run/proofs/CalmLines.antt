@@ -24,7 +24,7 @@ IsPlain (Idle n) = Unit {0}
 IsPlain Stat = Unit {0}
 IsPlain line = ⊥
 
-plain_arming : (line : Line) → IsPlain line → is_arming line ≡ false
+pub plain_arming : (line : Line) → IsPlain line → is_arming line ≡ false
 plain_arming (Write sector bytes) plain = refl
 plain_arming (Read sector) plain = refl
 plain_arming (Trim sector) plain = refl

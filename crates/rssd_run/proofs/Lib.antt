@@ -37,3 +37,5 @@ pub mod BlankDies
 pub mod WornFaults
 pub mod WornDies
 pub mod MadeRuns
+pub mod WornOpening
+pub mod PairDies

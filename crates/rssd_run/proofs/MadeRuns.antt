@@ -1,9 +1,14 @@
 -- A workload on a blank die: what `stat` and the reads after it tell.
-use Rattle.std.proofs.Common.{◌≡◌, ℕ, ◌<◌, ◌≤◌, List, [], length, get_or, refl, sym, ap, ◌∙◌, arith, subst}
+use Rattle.std.proofs.Common.{◌≡◌, ℕ, zero, suc, ◌<◌, ◌≤◌, false, All, List, [], length, get_or, refl, sym, ap, ◌∙◌, arith, subst}
+use Rattle.std.specs.List.{AllByRecursion}
+use Rattle.std.proofs.lemmas.List.Elements.{All-from_recursion}
 use Rattle.cell_die.specs.DieState.{DieState}
 use Rattle.die_image.specs.declared.head.ImageHead.{ImageHead}
+use Rattle.die_image.specs.Schemes.{row_of}
 use Rattle.collector.proofs.Rows.{rows_long}
+use Rattle.rssd_script.specs.declared.lines.Line.{Line}
 use Rattle.rssd_script.specs.declared.lines.Line.TheVariants.{Read, Stat}
+use Rattle.rssd_work.specs.Workload.{after_words, next_line, words_drawn, workload_from}
 use Rattle.rssd_script.specs.declared.replies.Reply.{Reply}
 use Rattle.rssd_script.specs.declared.replies.Reply.TheVariants.{Bytes, Stat as Counts}
 use Rattle.rssd_core.specs.DeviceValue.{Numbers, rows_of}
@@ -15,10 +20,12 @@ use Rattle.rssd_run.specs.Shows.{SessionValue, HasNumbers, StepsSession, stat_of
 use Rattle.rssd_run.specs.Heads.{numbers_named}
 use Rattle.rssd_run.specs.DieRuns.{StartsOn}
 use Rattle.rssd_run.specs.Workloads.{IsCalmAt, RunsLines, StepsLines, HasRows}
+use Rattle.rssd_run.specs.Calm.{is_arming, IsCalm}
 use Rattle.rssd_run.specs.MakeRuns.{Makes, lines_made, told_of}
 use Rattle.rssd_run.proofs.BlankStart.{IsFresh, blank_start}
-use Rattle.rssd_run.proofs.Calm.{start_unarmed}
-use Rattle.rssd_run.proofs.CalmLines.{IsCalmStep, calm_step}
+use Rattle.rssd_run.proofs.Calm.{runs_calmly, start_unarmed}
+use Rattle.rssd_run.proofs.CalmLines.{IsCalmStep, calm_step, plain_arming}
+use Rattle.rssd_run.proofs.WorkloadLines.{next_line_plain}
 use Rattle.rssd_run.proofs.HeldRows.{read_told}
 
 -- ---- the reply to `stat`
@@ -111,3 +118,20 @@ module _ (head : ImageHead) (die : DieState) (fresh : IsFresh head die) (seed co
         stat_is = told.0;
         has = record { view = s.after; calm = s.calm; rows = on; as_many = rows_stand d rows.0 e s.step on };
       }
+
+-- ---- no reply of it is a fault
+
+plain_lines : (sectors sector_bytes count state : ℕ) → AllByRecursion (λ (line : Line). is_arming line ≡ false) (workload_from count sectors sector_bytes state)
+unfolding workload_from
+plain_lines sectors sector_bytes zero state = tt
+plain_lines sectors sector_bytes (suc count) state = (
+  plain_arming (next_line sectors sector_bytes state) (next_line_plain sectors sector_bytes state),
+  plain_lines sectors sector_bytes count (after_words (words_drawn sector_bytes state) state),
+)
+
+pub makes_calmly : (head : ImageHead) (seed count : ℕ) (made : Makes head seed count) → IsCalm made.run.events
+makes_calmly head seed count made =
+    runs_calmly (numbers_named head) made.before made.run.events made.after made.run.run (start_unarmed head made.before made.start)
+    (subst IsOn (sym made.start.zeros) tt)
+    (subst (All (λ (line : Line). is_arming line ≡ false)) (sym made.run.of_lines)
+    (All-from_recursion (λ (line : Line). is_arming line ≡ false) (lines_made head seed count) (plain_lines head.sectors (row_of head.scheme).sector_bytes count seed)))

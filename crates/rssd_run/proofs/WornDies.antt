@@ -30,7 +30,7 @@ blank_is_blank zero = refl
 blank_is_blank (suc n) = blank_is_blank n
 
 module _ (inner : DieState) (blank : (page : ℕ) → page < inner.shape.pages → page_of inner page ≡ blank_page (page_bytes inner.shape)) where
-  never_gated : (page : ℕ) → page < inner.shape.pages → is_gated (page_of inner page) ≡ false
+  pub never_gated : (page : ℕ) → page < inner.shape.pages → is_gated (page_of inner page) ≡ false
   never_gated page below = ap is_gated (blank page below) ∙ blank_not_gated (page_bytes inner.shape)
 
   never_named : (block count : ℕ) → count ≤ inner.shape.pages → is_named_up_to inner block count ≡ false

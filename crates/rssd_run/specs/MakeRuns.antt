@@ -7,10 +7,12 @@ use Rattle.rssd_script.specs.Replies.{reply_line}
 use Rattle.rssd_work.specs.Workload.{workload}
 use Rattle.rssd_run.specs.ArrayWithCuts.{On}
 use Rattle.rssd_run.specs.View.{View}
-use Rattle.rssd_run.specs.Calm.{IsCalm}
 use Rattle.rssd_run.specs.Heads.{numbers_named}
 use Rattle.rssd_run.specs.Replays.{IsBlankStart}
 use Rattle.rssd_run.specs.Shows.{stat_of}
+use Rattle.rssd_run.specs.declared.status.Status.{Status}
+use Rattle.rssd_run.specs.declared.status.Status.TheVariants.{Done, WriteFault, OutOfMemory}
+use Rattle.rssd_run.specs.Statuses.{Output, Took, TookPart, TookNothing}
 use Rattle.rssd_run.specs.Workloads.{RunsLines, held_count, byte_sum, held_line}
 
 -- the lines of a seed's workload for a head's device
@@ -33,3 +35,10 @@ told_of made = reply_line (stat_of made.after) ∷ held_line (held_count made.ro
 -- P holds of the two lines of such a run
 abbrev pub TellsMade : ImageHead → ℕ → ℕ → (List (List ℕ) → Type 0) → Type 0
 TellsMade head seed count P = (made : Makes head seed count) × P (told_of made)
+
+-- what each status says of a make
+abbrev pub SaysMake : ImageHead → ℕ → ℕ → Output → Status → Type 0
+SaysMake head seed count out Done = TellsMade head seed count (Took out)
+SaysMake head seed count out WriteFault = TellsMade head seed count (TookPart out)
+SaysMake head seed count out OutOfMemory = TookNothing out
+SaysMake head seed count out status = ⊥

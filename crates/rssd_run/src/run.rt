@@ -13,6 +13,7 @@ pub mod make_run;
 pub mod on_die;
 pub mod pair_run;
 pub mod played;
+pub mod played_script;
 pub mod replay;
 pub mod schemes;
 pub mod script;

@@ -5,7 +5,8 @@ ghost use Rattle.die_image.specs.Image.{is_within_limits, shape_of};
 ghost use Rattle.mem_die.specs.MemState.{mem_state, IsNew};
 ghost use Rattle.rssd_io.specs.Pieces.{Gives, StopsAt};
 ghost use Rattle.rssd_run.specs.Calm.{IsCalm};
-ghost use Rattle.rssd_run.specs.MakeRuns.{Makes, TellsMade};
+ghost use Rattle.rssd_run.specs.MakeRuns.{Makes, TellsMade, SaysMake};
+ghost use Rattle.rssd_run.specs.Statuses.{output};
 ghost use Rattle.rssd_run.specs.Schemes.{meaning_named};
 
 use crate::run::Stepping;
@@ -14,6 +15,7 @@ use crate::run::replay::blank_die;
 use crate::run::schemes::{cosets, flips, pairs, plains, sevens};
 use crate::run::session::Session;
 use crate::run::workload::{held_text, read_held, step_workload};
+use crate::status::Status;
 use die_image::{ImageHead, SchemeName};
 use mem_die::MemDie;
 use rssd_core::device::PowerDevice;
@@ -125,6 +127,27 @@ pub fn make_run<O: Sink>(
         SchemeName::Flip512 => make_made(alloc, head, seeded, flips(alloc, 512), die, out),
         SchemeName::Ham16 => make_made(alloc, head, seeded, sevens(alloc, 16), die, out),
         SchemeName::Ham512 => make_made(alloc, head, seeded, sevens(alloc, 512), die, out),
+    }
+}
+
+/// Answers `make`.
+pub fn answer_make<O: Sink>(
+    alloc: Global,
+    head: &ImageHead,
+    seeded: Seeded,
+    out: &mut O,
+) -> Status
+    requires { is_within_limits head.now ≡ true }
+    ensures { SaysMake head.now seeded.seed seeded.count (output (O.log out.old) (O.log out.new)) result }
+{
+    match make_run(alloc, head, seeded, out) {
+        Ok(()) => match out.flush() {
+            Ok(()) => Status::Done,
+            Err(_) => Status::WriteFault,
+        },
+        Err(RunError::Sink) => Status::WriteFault,
+        Err(RunError::OutOfMemory) => Status::OutOfMemory,
+        Err(RunError::NoSpare) => unreachable!(),
     }
 }
 

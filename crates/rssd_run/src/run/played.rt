@@ -1,6 +1,6 @@
 //! A script that is played on a blank die of any kind: the die is mounted first, and each reply is one of its device's. Lines
 //! that only a session takes are none of such a script.
-ghost use Rattle.std.specs.Prelude.{◌≡◌, ◌≤◌, ◌<◌, ◌^◌, ◌↔◌, IsTrue, OnOk, OnErr, IfOk, IfSome, IfNone, IsErrOf, length, true};
+ghost use Rattle.std.specs.Prelude.{◌≡◌, ◌≤◌, OnOk, OnErr, IfOk, IsErrOf, true};
 ghost use Rattle.std.specs.List.{All};
 ghost use Rattle.cell_die.specs.DieState.{DieState};
 ghost use Rattle.page_codec.specs.Sound.{IsSound};
@@ -9,7 +9,7 @@ ghost use Rattle.rssd_core.specs.Mount.{Mounts, MountFails};
 ghost use Rattle.rssd_core.specs.Outcomes.{TrueWhileRunning};
 ghost use Rattle.rssd_run.specs.Heads.{numbers_named};
 ghost use Rattle.rssd_run.specs.Played.{IsPlayed};
-ghost use Rattle.rssd_run.specs.PlayedRuns.{IsFirstUnplayed, PlaysLines, PlaysInPart, PlaysOn, PlaysFrontOn, IsBlankDie};
+ghost use Rattle.rssd_run.specs.PlayedRuns.{PlaysLines, PlaysInPart, PlaysOn, PlaysFrontOn, IsBlankDie};
 ghost use Rattle.rssd_run.specs.Schemes.{meaning_named};
 
 use crate::run::line::play;
@@ -41,32 +41,6 @@ pub trait KnownDevice<D: KnownDie + Drop, C: Scheme + Drop>: Device<D, C> {
 
 impl<D: KnownDie + Drop, C: Scheme + Drop> KnownDevice<D, C> for Ftl<D, C> {
     ghost knows = { λ ftl. D.knows ftl.die };
-}
-
-/// Whether a device plays a line.
-fn is_played(line: &Line) -> bool
-    ensures { IsTrue result ↔ IsPlayed line.now }
-{
-    match line {
-        Line::Cut { .. } | Line::FailRead { .. } | Line::Mount | Line::Stat => false,
-        _ => true,
-    }
-}
-
-/// The first line, from 1, that only a session takes.
-pub fn first_unplayed(lines: &[Line]) -> Option<u32>
-    requires { length lines.now < 2 ^ 32 }
-    ensures found { IfSome result (λ k. IsFirstUnplayed lines.now k) }
-    ensures none { IfNone result (All IsPlayed lines.now) }
-{
-    let mut k = 0;
-    for line in lines {
-        k += 1;
-        if !is_played(line) {
-            return Some(k);
-        }
-    }
-    None
 }
 
 /// Plays the lines in order, and gives each reply with its line feed to `out` in one piece.

@@ -12,9 +12,12 @@ ghost use Rattle.rssd_words.specs.Commands.{IsWithin};
 use crate::refusal::{refuse, refuse_image, refuse_script, refuse_words};
 use crate::run::image::{ImageReadError, give_image, read_image};
 use crate::run::image_run::{blank_cells, cells_of, run_image};
+use crate::run::make_run::{Seeded, answer_make};
 use crate::run::on_die::RunError;
+use crate::run::pair_run::answer_pair;
 use crate::run::replay::replay;
 use crate::run::script::{ReadError, read_script};
+use crate::run::worn_run::answer_worn;
 use crate::status::Status;
 use die_image::{ImageHead, ImageReader};
 use rssd_io::{Sink, Source, WriteFault};
@@ -152,7 +155,16 @@ fn answer_command<I: Source, T: Source, O: Sink, G: Sink>(
         Command::Replay(head) => answer_replay(alloc, head, script, out),
         Command::Run => answer_run(alloc, image, script, out, image_out),
         Command::Format(head) => answer_format(alloc, head, image_out),
+        Command::Make { seed, count, head } => {
+            let seeded = Seeded {
+                seed: *seed,
+                count: *count,
+            };
+            answer_make(alloc, head, seeded, out)
+        }
         Command::Upgrade => answer_upgrade(alloc, image, out, image_out),
+        Command::Worn { head, reserve, bad } => answer_worn(alloc, head, *reserve, *bad, script, out),
+        Command::Pair(head) => answer_pair(alloc, head, script, out),
         _ => refuse_words(out),
     }
 }

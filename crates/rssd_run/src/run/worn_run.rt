@@ -6,14 +6,19 @@ ghost use Rattle.die_image.specs.Image.{is_within_limits, shape_of};
 ghost use Rattle.mem_die.specs.WornState.{worn_state, worn_shaped, bad_erases_of};
 ghost use Rattle.rssd_words.specs.Commands.{IsReserve};
 ghost use Rattle.rssd_run.specs.Played.{IsPlayed};
+ghost use Rattle.rssd_run.specs.ReadScript.{TakesScript};
+ghost use Rattle.rssd_run.specs.Statuses.{input, output};
+ghost use Rattle.rssd_run.specs.Top.{SaysPlayed};
 ghost use Rattle.rssd_run.specs.WornRuns.{IsWorn, IsBlankInner, IsNewWorn, worn_known, PlaysWorn, PlaysWornFront};
 
 use crate::run::on_die::{RunError, die_shape};
 use crate::run::played::{KnownDie, play_on};
+use crate::run::played_script::read_played;
+use crate::status::Status;
 use cell_die::{Die, Shape};
 use die_image::ImageHead;
 use mem_die::{DieRefusal, MemDie, OutOfMemory, WornMem};
-use rssd_io::Sink;
+use rssd_io::{Sink, Source};
 use rssd_script::Line;
 use spare_die::{OpenError, SpareDie, open};
 use std::alloc::{AllocError, Global};
@@ -93,4 +98,34 @@ pub fn play_worn<O: Sink>(
         return Err(RunError::OutOfMemory);
     };
     play_on(alloc, head, die, lines, out)
+}
+
+/// Answers `worn`.
+pub fn answer_worn<T: Source, O: Sink>(
+    alloc: Global,
+    head: &ImageHead,
+    reserve: u32,
+    bad: u32,
+    script: &mut T,
+    out: &mut O,
+) -> Status
+    requires within { is_within_limits head.now ≡ true }
+    requires reserve { IsReserve head.now reserve }
+    ensures says { SaysPlayed (PlaysWorn head.now reserve bad) (PlaysWornFront head.now reserve bad)
+        (input (T.log script.old) (T.log script.new)) (output (O.log out.old) (O.log out.new)) result }
+    ensures script_bounded { TakesScript (T.log script.old) (T.log script.new) }
+{
+    let lines = match read_played(alloc, script, out) {
+        Ok(lines) => lines,
+        Err(status) => return status,
+    };
+    match play_worn(alloc, head, reserve, bad, &lines, out) {
+        Ok(()) => match out.flush() {
+            Ok(()) => Status::Done,
+            Err(_) => Status::WriteFault,
+        },
+        Err(RunError::Sink) => Status::WriteFault,
+        Err(RunError::OutOfMemory) => Status::OutOfMemory,
+        Err(RunError::NoSpare) => unreachable!(),
+    }
 }
