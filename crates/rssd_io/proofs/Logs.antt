@@ -22,7 +22,7 @@ grew old new events came = came ∙ ap (λ (xs : List Event). old ++ xs) (sym (s
 pub failures_append : (events more : List Event) → failures (events ++ more) ≡ failures events + failures more
 failures_append [] more = omega arith
 failures_append (None ∷ events) more = omega (arith, failures_append events more)
-failures_append (Some done ∷ events) more = failures_append events more
+failures_append (Some moves ∷ events) more = failures_append events more
 
 pub bytes_append : (events more : List Event) → bytes_of (events ++ more) ≡ bytes_of events ++ bytes_of more
 bytes_append events more = flat_map-append bytes_in events more

@@ -28,7 +28,7 @@ bytes_of events = flat_map bytes_in events
 abbrev pub failures : List Event → ℕ
 failures [] = 0
 failures (None ∷ events) = failures events + 1
-failures (Some done ∷ events) = failures events
+failures (Some moves ∷ events) = failures events
 
 -- this was the last event
 abbrev pub EndsWith : Event → List Event → Type 0
