@@ -1,8 +1,8 @@
 -- An image that is given in pieces: those that were given, and those of the bytes that are left, are the pieces of the whole.
 use Rattle.std.proofs.Common.{◌≡◌, ℕ, zero, suc, ◌+◌, ◌-◌, ◌<◌, ◌≤◌, min, List, [], ◌∷◌, ◌++◌, length, take, drop, map, get_or, refl, sym, ap, ◌∙◌, subst, inl, inr, arith, append-nil, append_assoc, length-append}
-use Rattle.std.proofs.lemmas.List.{length-drop}
-use Rattle.rssd_io.specs.Event.{Event, Gave, moved, flushed, failed}
-use Rattle.rssd_io.specs.Pieces.{all_given, StopsAt, StopsIn}
+use Rattle.std.proofs.lemmas.List.{length-drop, nil_from_length}
+use Rattle.rssd_io.specs.Event.{Event, moved, failed}
+use Rattle.rssd_io.specs.Pieces.{all_given, Gives, StopsIn}
 use Rattle.rssd_io.proofs.Logs.{given_append}
 use Rattle.rssd_run.specs.GiveImage.{cut, pages_in}
 
@@ -54,12 +54,6 @@ given_more old between new whole rest piece is came = record {
   both = append_assoc is.front (piece ∷ []) rest ∙ is.both;
 }
 
--- all were given, and one event came behind them
-pub given_all : (old between new : List Event) (whole rest : List (List ℕ)) (last : Event) → IsGiven old between whole rest → rest ≡ [] → new ≡ between ++ last ∷ [] → new ≡ old ++ (all_given whole ++ last ∷ [])
-given_all old between new whole rest last is none came =
-    let all : is.front ≡ whole = sym (append-nil is.front) ∙ (ap (λ (xs : List (List ℕ)). is.front ++ xs) (sym none) ∙ is.both) in
-    came ∙ (ap (λ (xs : List Event). xs ++ last ∷ []) is.given ∙ (append_assoc old (all_given is.front) (last ∷ []) ∙ ap (λ (xs : List (List ℕ)). old ++ (all_given xs ++ last ∷ [])) all))
-
 -- a front of the next piece was given, and then the give failed
 pub given_front : (old between new : List Event) (whole rest : List (List ℕ)) (piece : List ℕ) (n : ℕ) → IsGiven old between whole (piece ∷ rest) → new ≡ between ++ moved (take n piece) ∷ failed ∷ [] → StopsIn whole old new
 given_front old between new whole rest piece n is came = inl (record {
@@ -78,3 +72,36 @@ given_front old between new whole rest piece n is came = inl (record {
 
     here : (take (length is.front) whole ≡ is.front) × (get_or whole (length is.front) [] ≡ piece)
     here = subst (λ (xs : List (List ℕ)). (take (length is.front) xs ≡ is.front) × (get_or xs (length is.front) [] ≡ piece)) is.both (at is.front)
+
+-- ---- page by page
+
+next_page : (size : ℕ) (rest piece behind : List ℕ) → 0 < size → rest ≡ piece ++ behind → length piece ≡ min size (length rest) → 0 < length rest → pages_in size rest ≡ piece ∷ pages_in size behind
+next_page size rest piece behind some parts fits any =
+    let fits_now : length piece ≡ min size (length (piece ++ behind)) = fits ∙ ap (λ (xs : List ℕ). min size (length xs)) parts in
+    ap (pages_in size) parts ∙ pages_more size piece behind some (omega (arith, some, fits, any)) fits_now
+
+pub given_page : (old between new : List Event) (whole : List (List ℕ)) (size : ℕ) (rest piece behind : List ℕ) → IsGiven old between whole (pages_in size rest) → 0 < size → rest ≡ piece ++ behind → length piece ≡ min size (length rest) → 0 < length rest
+    → new ≡ between ++ moved piece ∷ [] → IsGiven old new whole (pages_in size behind)
+given_page old between new whole size rest piece behind is some parts fits any came =
+    given_more old between new whole (pages_in size behind) piece (subst (IsGiven old between whole) (next_page size rest piece behind some parts fits any) is) came
+
+pub given_part : (old between new : List Event) (whole : List (List ℕ)) (size : ℕ) (rest piece behind : List ℕ) (n : ℕ) → IsGiven old between whole (pages_in size rest) → 0 < size → rest ≡ piece ++ behind → length piece ≡ min size (length rest) → 0 < length rest
+    → new ≡ between ++ moved (take n piece) ∷ failed ∷ [] → StopsIn whole old new
+given_part old between new whole size rest piece behind n is some parts fits any came =
+    given_front old between new whole (pages_in size behind) piece n (subst (IsGiven old between whole) (next_page size rest piece behind some parts fits any) is) came
+
+-- the head was given, whose bytes are these
+pub given_head : (old new : List Event) (head : List ℕ) (bytes : List ℕ) (pages : List (List ℕ)) → head ≡ bytes ++ [] → new ≡ old ++ moved bytes ∷ [] → IsGiven old new (head ∷ pages) pages
+given_head old new head bytes pages is came =
+    given_more old old new (head ∷ pages) pages head (given_none old (head ∷ pages)) (subst (λ (xs : List ℕ). new ≡ old ++ moved xs ∷ []) (sym (is ∙ append-nil bytes)) came)
+
+-- a front of the head was given, and then the give failed
+pub given_head_part : (old new : List Event) (head : List ℕ) (bytes : List ℕ) (pages : List (List ℕ)) (n : ℕ) → head ≡ bytes ++ [] → new ≡ old ++ moved (take n bytes) ∷ failed ∷ [] → StopsIn (head ∷ pages) old new
+given_head_part old new head bytes pages n is came =
+    given_front old old new (head ∷ pages) pages head n (given_none old (head ∷ pages)) (subst (λ (xs : List ℕ). new ≡ old ++ moved (take n xs) ∷ failed ∷ []) (sym (is ∙ append-nil bytes)) came)
+
+-- no byte is left: all was given
+pub given_whole : (old new : List Event) (whole : List (List ℕ)) (size : ℕ) (rest : List ℕ) → IsGiven old new whole (pages_in size rest) → length rest ≡ 0 → Gives whole old new
+given_whole old new whole size rest is none =
+    let left : pages_in size rest ≡ [] = ap (pages_in size) (nil_from_length rest none) in
+    is.given ∙ ap (λ (pieces : List (List ℕ)). old ++ all_given pieces) (sym (append-nil is.front) ∙ (ap (λ (xs : List (List ℕ)). is.front ++ xs) (sym left) ∙ is.both))

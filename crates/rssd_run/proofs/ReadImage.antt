@@ -61,6 +61,10 @@ takes is_old old new events bytes came are within = record {
   most = subst (λ (xs : List ℕ). length xs ≤ reach_of is_old (head_read is_old xs)) (are ∙ ap bytes_of (sym (since_is old new events came))) within;
 }
 
+-- a source that was not called
+pub takes_nothing : (is_old : Bool) (log : List Event) → TakesImage is_old log log
+takes_nothing is_old log = takes is_old log log [] [] (sym (append-nil log)) refl (omega arith)
+
 pub taken : (old new : List Event) (was fed : Fed) → IsFed old new was fed → TakesImage was.is_old old new
 taken old new was fed is = subst (λ (is_old : Bool). TakesImage is_old old new) is.version (takes fed.is_old old new is.events fed.bytes is.came is.bytes is.within)
 

@@ -1,6 +1,6 @@
 //! The top call: words and input to output and a status. It knows the commands `replay`, `run`, `format` and
 //! `upgrade`; any other words are bad.
-ghost use Rattle.std.specs.Prelude.{◌≡◌, ℕ, List, map, string_bytes, true, false, OnOk, OnErr};
+ghost use Rattle.std.specs.Prelude.{◌≡◌, ℕ, List, map, string_bytes, true, false};
 ghost use Rattle.die_image.specs.Image.{is_within_limits};
 ghost use Rattle.rssd_run.specs.declared.status.Status.{Status as How};
 ghost use Rattle.rssd_run.specs.ReadScript.{TakesScript};
@@ -20,20 +20,9 @@ use crate::run::script::{ReadError, read_script};
 use crate::run::worn_run::answer_worn;
 use crate::status::Status;
 use die_image::{ImageHead, ImageReader};
-use rssd_io::{Sink, Source, WriteFault};
+use rssd_io::{Sink, Source};
 use rssd_words::{Command, read_words};
 use std::alloc::Global;
-
-/// The status of a call whose last step was to give.
-fn status_of(given: Result<(), WriteFault>) -> Status
-    ensures done { OnOk given (result ≡ How.Done) }
-    ensures fault { OnErr given (result ≡ How.WriteFault) }
-{
-    match given {
-        Ok(()) => Status::Done,
-        Err(_) => Status::WriteFault,
-    }
-}
 
 /// Answers `replay`.
 fn answer_replay<T: Source, O: Sink>(
@@ -52,7 +41,10 @@ fn answer_replay<T: Source, O: Sink>(
         Err(ReadError::Refused(why)) => return refuse_script(out, why),
     };
     match replay(alloc, head, &lines, out) {
-        Ok(()) => status_of(out.flush()),
+        Ok(()) => match out.flush() {
+            Ok(()) => Status::Done,
+            Err(_) => Status::WriteFault,
+        },
         Err(RunError::Sink) => Status::WriteFault,
         Err(RunError::OutOfMemory) => Status::OutOfMemory,
         Err(RunError::NoSpare) => unreachable!(),
@@ -96,7 +88,10 @@ fn answer_run<I: Source, T: Source, O: Sink, G: Sink>(
     if out.flush().is_err() {
         return Status::WriteFault;
     }
-    status_of(give_image(&head, cells_of(&die), image_out))
+    match give_image(&head, cells_of(&die), image_out) {
+        Ok(()) => Status::Done,
+        Err(_) => Status::WriteFault,
+    }
 }
 
 /// Answers `format`.
@@ -107,7 +102,10 @@ fn answer_format<G: Sink>(alloc: Global, head: &ImageHead, image_out: &mut G) ->
     let Ok(cells) = blank_cells(alloc, head) else {
         return Status::OutOfMemory;
     };
-    status_of(give_image(head, &cells, image_out))
+    match give_image(head, &cells, image_out) {
+        Ok(()) => Status::Done,
+        Err(_) => Status::WriteFault,
+    }
 }
 
 /// Answers `upgrade`.
@@ -127,7 +125,10 @@ fn answer_upgrade<I: Source, O: Sink, G: Sink>(
         Err(ImageReadError::Fault) => return Status::ReadFault,
         Err(ImageReadError::Refused(why)) => return refuse_image(out, why),
     };
-    status_of(give_image(&head, &cells, image_out))
+    match give_image(&head, &cells, image_out) {
+        Ok(()) => Status::Done,
+        Err(_) => Status::WriteFault,
+    }
 }
 
 /// Answers a command.

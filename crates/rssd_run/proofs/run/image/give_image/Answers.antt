@@ -1,7 +1,40 @@
 -- What was given and what is left are the pieces of the image, at each piece.
-use Rattle.std.proofs.Common.{Result, Ok, Err, ◌∙◌, arith}
-use Rattle.rssd_run.proofs.GiveImage.{given_none, given_more, given_front, given_all}
+use Rattle.std.proofs.Common.{[], ◌∙◌, arith}
+use Rattle.std.specs.Slice.Iter.{chunks_rest}
+use Rattle.cell_die.specs.DieState.{page_bytes}
+use Rattle.die_image.specs.Image.{image, shape_of}
+use Rattle.rssd_io.proofs.Pieces.{flush_done, flush_front, on_err}
+use Rattle.rssd_run.specs.GiveImage.{image_pieces, pages_in}
+use Rattle.rssd_run.proofs.GiveImage.{given_head, given_head_part, given_page, given_part, given_whole}
 use Rattle.rssd_run.proofs.run.image.give_image.Goals as goal
 
+pub returns-in_err-give-clause-front : goal.returns-in_err-give-clause-front
+returns-in_err-give-clause-front g c =
+    let log = g.G.Sink.log in
+    let pages = pages_in (page_bytes (shape_of c.args.head.now)) c.args.cells.now in
+    on_err c.from_residual.result _
+    (given_head_part (log c.args.image_out.now) (log c.give.new.self) (image c.args.head.now []) c.encode_head.result pages c.in_err-give.ensures.log.0 (c.encode_head.ensures []) c.in_err-give.ensures.log.1)
+
 pub loop-page-preserved : goal.loop-page-preserved
-loop-page-preserved g c = ?
+loop-page-preserved g c =
+    let log = g.G.Sink.log in
+    let steps = c.in-Some.ensures.steps in
+    let size = page_bytes (shape_of c.args.head.now) in
+    let is = c.loop-page.invariant in
+    record {
+      next = omega (arith, steps.0, is.next);
+      finite = tt;
+      size = steps.0 ∙ is.size;
+      given = given_page (log c.args.image_out.now) (log c.loop-page.image_out) (log c.give-2.new.self) (image_pieces c.args.head.now c.args.cells.now) size (chunks_rest c.loop-page.page-iterator) c.in-Some.page.now (chunks_rest c.next.new.self)
+          is.given (omega (arith, is.next, is.size)) steps.1.0 (rw is.size at steps.1.1.0) steps.1.1.1 c.in_ok-give-2.ensures.log;
+    }
+
+pub returns-in_err-give-2-clause-front : goal.returns-in_err-give-2-clause-front
+returns-in_err-give-2-clause-front g c =
+    let log = g.G.Sink.log in
+    let steps = c.in-Some.ensures.steps in
+    let size = page_bytes (shape_of c.args.head.now) in
+    let is = c.loop-page.invariant in
+    on_err c.from_residual-in_err-give-2.result _
+    (given_part (log c.args.image_out.now) (log c.loop-page.image_out) (log c.give-2.new.self) (image_pieces c.args.head.now c.args.cells.now) size (chunks_rest c.loop-page.page-iterator) c.in-Some.page.now (chunks_rest c.next.new.self)
+    c.in_err-give-2.ensures.log.0 is.given (omega (arith, is.next, is.size)) steps.1.0 (rw is.size at steps.1.1.0) steps.1.1.1 c.in_err-give-2.ensures.log.1)
