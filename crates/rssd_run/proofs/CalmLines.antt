@@ -40,7 +40,7 @@ plain_on size rows (Idle n) reply next plain row good = idle_on rows reply next 
 plain_on size rows Stat reply next plain row good = stat_on rows reply next row
 plain_on size rows line reply next plain row good = absurd plain
 
-plain_stays_on : (size : ℕ) (array : ArrayState) (line : Line) (reply : Reply) (next : ArrayState) → IsPlain line → IsOn array → Row size array line reply next → (reply ≡ Fault → ⊥) → IsOn next
+pub plain_stays_on : (size : ℕ) (array : ArrayState) (line : Line) (reply : Reply) (next : ArrayState) → IsPlain line → IsOn array → Row size array line reply next → (reply ≡ Fault → ⊥) → IsOn next
 plain_stays_on size (On rows) line reply next plain on row good = plain_on size rows line reply next plain row good
 plain_stays_on size (Off old new) line reply next plain on row good = absurd on
 

@@ -39,3 +39,5 @@ pub mod WornDies
 pub mod MadeRuns
 pub mod WornOpening
 pub mod PairDies
+pub mod CommandsComplete
+pub mod CallStops

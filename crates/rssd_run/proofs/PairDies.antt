@@ -21,13 +21,16 @@ use Rattle.stripe_die.specs.Pair.{pair_state, pair_failures, pair_page, is_idle,
 use Rattle.stripe_die.specs.PairLaws.{number_at, page_inside, page_of-pair, pair_shaped}
 use Rattle.rssd_core.specs.DeviceValue.{Numbers}
 use Rattle.rssd_core.specs.Mount.{MountFails}
-use Rattle.rssd_script.specs.declared.replies.Reply.{Reply}
-use Rattle.rssd_script.specs.declared.replies.Reply.TheVariants.{Fault, Off as SaysOff}
-use Rattle.rssd_run.specs.ArrayWithCuts.{ArrayState, On, Off, Row}
+use Rattle.rssd_script.specs.declared.lines.Line.{Line}
+use Rattle.rssd_script.specs.declared.lines.Line.TheVariants.{Write, Read, Trim, Idle}
+use Rattle.rssd_script.specs.declared.replies.Reply.TheVariants.{Fault}
+use Rattle.rssd_run.specs.ArrayWithCuts.{ArrayState, On, Off}
 use Rattle.rssd_run.specs.View.{View, Event, IsOn, IsOff}
-use Rattle.rssd_run.specs.Played.{IsPlayedStep}
+use Rattle.rssd_run.specs.Played.{IsPlayed}
+use Rattle.rssd_run.specs.Run.{lines_of}
 use Rattle.rssd_run.specs.PlayedRuns.{IsBlankDie, IsPlayedRun, NeverFaults}
 use Rattle.rssd_run.specs.PairRuns.{IsPair, IsNewPair, half_shape, NeverRefuses}
+use Rattle.rssd_run.proofs.CalmLines.{IsPlain, plain_stays_on}
 use Rattle.rssd_run.proofs.HeadLimits.{head_fits_die, head_limits}
 
 -- ---- the shape of each die
@@ -107,21 +110,33 @@ not_both : (array : ArrayState) → IsOn array → IsOff array → ⊥
 not_both (On rows) on off = off
 not_both (Off old new) on off = on
 
-stays_on : (d : Numbers) (e : Event) → IsPlayedStep d e → IsOn e.before.array → NeverFaults e → IsOn e.after.array
-stays_on d e step on never = ?
+played_plain : (line : Line) → IsPlayed line → IsPlain line
+played_plain (Write sector bytes) played = tt
+played_plain (Read sector) played = tt
+played_plain (Trim sector) played = tt
+played_plain (Idle n) played = tt
+played_plain line played = absurd played
 
-runs_never_refuse : (d : Numbers) (before : View) (events : List Event) (after : View) → IsPlayedRun d before events after → IsOn before.array → AllByRecursion NeverFaults events → AllByRecursion NeverRefuses events
+runs_never_refuse : (d : Numbers) (before : View) (events : List Event) (after : View) → IsPlayedRun d before events after → IsOn before.array → AllByRecursion (λ (e : Event). IsPlayed e.line) events
+    → AllByRecursion NeverFaults events → AllByRecursion NeverRefuses events
 unfolding IsPlayedRun
-runs_never_refuse d before [] after run on never = tt
-runs_never_refuse d before (e ∷ events) after run on never =
+runs_never_refuse d before [] after run on played never = tt
+runs_never_refuse d before (e ∷ events) after run on played never =
     let here : IsOn e.before.array = subst (λ (view : View). IsOn view.array) (sym run.0) on in (
       record { no_fault = never.0; no_off = λ off. not_both e.before.array here (run.1.refused.off.0 off).0 },
-      runs_never_refuse d e.after events after run.2 (stays_on d e run.1 here never.0) never.1,
+      runs_never_refuse d e.after events after run.2
+          (plain_stays_on d.geometry.sector_bytes e.before.array e.line e.reply e.after.array (played_plain e.line played.0) here run.1.row never.0) played.1 never.1,
     )
 
 by_recursion : (events : List Event) → All NeverFaults events → AllByRecursion NeverFaults events
 by_recursion [] all = tt
 by_recursion (e ∷ events) all = (All-head NeverFaults e events all, by_recursion events (All-tail NeverFaults e events all))
 
-pub never_refuse : (d : Numbers) (before : View) (events : List Event) (after : View) → IsPlayedRun d before events after → IsOn before.array → All NeverFaults events → All NeverRefuses events
-never_refuse d before events after run on never = All-from_recursion NeverRefuses events (runs_never_refuse d before events after run on (by_recursion events never))
+each_played : (events : List Event) → All IsPlayed (lines_of events) → AllByRecursion (λ (e : Event). IsPlayed e.line) events
+each_played [] all = tt
+each_played (e ∷ events) all = (All-head IsPlayed e.line (lines_of events) all, each_played events (All-tail IsPlayed e.line (lines_of events) all))
+
+pub never_refuse : (d : Numbers) (before : View) (events : List Event) (after : View) → IsPlayedRun d before events after → IsOn before.array → All IsPlayed (lines_of events) → All NeverFaults events
+    → All NeverRefuses events
+never_refuse d before events after run on played never =
+    All-from_recursion NeverRefuses events (runs_never_refuse d before events after run on (each_played events played) (by_recursion events never))

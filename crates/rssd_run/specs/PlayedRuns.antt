@@ -25,9 +25,10 @@ use Rattle.rssd_run.specs.Shows.{Mounted, ShowsHolding}
 -- Line k, from 1, is the first that no device plays.
 pub record IsFirstUnplayed (lines : List Line) (k : ℕ) : Type 0 where
   pub some : 1 ≤ k
-  pub inside : k ≤ length lines
   pub before : All IsPlayed (take (k - 1) lines)
-  pub unplayed : (line : Line) → slice_get lines (k - 1) ≡ Some line → IsPlayed line → ⊥
+  pub line : Line
+  pub at : slice_get lines (k - 1) ≡ Some line
+  pub unplayed : IsPlayed line → ⊥
 
 -- a played run from one view to another: each step begins where the one before ended
 unfoldable pub IsPlayedRun : Numbers → View → List Event → View → Type 0

@@ -1,5 +1,5 @@
-//! The top call: words and input to output and a status. It knows the commands `replay`, `run`, `format` and
-//! `upgrade`; any other words are bad.
+//! The top call: words and input to output and a status. It knows the commands `replay`, `run`, `format`, `make`, `upgrade`,
+//! `worn` and `pair`; any other words are bad.
 ghost use Rattle.std.specs.Prelude.{◌≡◌, ℕ, List, map, string_bytes, true, false};
 ghost use Rattle.die_image.specs.Image.{is_within_limits};
 ghost use Rattle.rssd_run.specs.declared.status.Status.{Status as How};
@@ -203,7 +203,12 @@ fn answer<I: Source, T: Source, O: Sink, G: Sink>(
 /// - `run` reads the script and then the image, mounts a die of its cells, gives the replies, has `out` hand them on, and then
 ///   gives the image of the cells as they stand to `image_out`: the head in one piece, and each page in one.
 /// - `format SCHEME BLOCKS PAGES SECTORS REUSE` gives the image of a blank die to `image_out`.
+/// - `make SEED COUNT SCHEME BLOCKS PAGES SECTORS REUSE` steps the lines of a workload, which is a function of its seed, on a blank
+///   die, and gives two lines to `out`: the reply to `stat`, and what the sectors hold.
 /// - `upgrade` reads an image of version 1, and gives the image of version 2 with the same head and cells to `image_out`.
+/// - `worn SCHEME BLOCKS PAGES SECTORS REUSE RESERVE BAD` reads a script that has no line `cut`, `failread`, `mount` or `stat`, and
+///   plays it on a blank die each BAD-th erase of which makes a block bad, and which has RESERVE blocks to replace bad ones.
+/// - `pair SCHEME BLOCKS PAGES SECTORS REUSE` reads such a script and plays it on two blank dies as one.
 ///
 /// The other commands are not known yet: their words are bad. A source that the command does not read, and a sink that it does
 /// not write, are as before the call.
