@@ -13,9 +13,7 @@ use Rattle.rssd_run.specs.declared.status.Status.TheVariants.{Done, BadWords, Ba
 use Rattle.rssd_run.specs.Statuses.{Call, taken, WriteFailed}
 use Rattle.rssd_run.specs.ImageRuns.{IsFull}
 use Rattle.rssd_run.specs.Run.{pieces_of}
-use Rattle.rssd_run.specs.WornRuns.{PlaysWorn, PlaysWornFront}
-use Rattle.rssd_run.specs.PairRuns.{PlaysPair, PlaysPairFront}
-use Rattle.rssd_run.proofs.CommandsComplete.{make_completes, played_completes, worn_ends, pair_ends}
+use Rattle.rssd_run.specs.MakeRuns.{SaysMake}
 use Rattle.rssd_run.proofs.CallStops.{stopped, unflushed, never_refused}
 use Rattle.rssd_run.specs.Top.{SaysOf, SaysReplay, SaysRun, SaysFormat, SaysUpgrade, StopsReplay, IsRunCutOff, IsRefused, IsBadImage, IsNoImage, HasScript, HasImage, HasOldImage, NoneFailed, IsComplete}
 
@@ -99,6 +97,15 @@ upgrade_completes call WriteFault says image none = absurd (none.no_image_out_fa
 upgrade_completes call BadWords says image none = absurd says
 upgrade_completes call BadScript says image none = absurd says
 
+make_completes : (head : ImageHead) (seed count : ℕ) (call : Call) (status : Status) → SaysMake head seed count call.out status → NoneFailed call → (status ≡ Done) ⊎ (status ≡ OutOfMemory)
+make_completes head seed count call Done says none = inl refl
+make_completes head seed count call OutOfMemory says none = inr refl
+make_completes head seed count call WriteFault says none = absurd (none.no_out_fault (stopped _ call.out.before call.out.after says.1))
+make_completes head seed count call BadWords says none = absurd says
+make_completes head seed count call BadScript says none = absurd says
+make_completes head seed count call BadImage says none = absurd says
+make_completes head seed count call ReadFault says none = absurd says
+
 pub completes : (command : Command) (call : Call) (status : Status) → SaysOf command call status → IsComplete command call status
 completes (Replay head) call status says asked none = replay_completes head call status says.0 asked none
 completes Run call status says asked none = run_completes call status says.0 asked.0 asked.1 none
@@ -106,6 +113,6 @@ completes (Format head) call status says asked none = format_completes head call
 completes Upgrade call status says asked none = upgrade_completes call status says.0 asked none
 completes (Make seed count head) call status says asked none = make_completes head seed count call status says none
 completes (Queue head) call status says asked none = absurd asked
-completes (Worn head reserve bad) call status says asked none = played_completes (PlaysWorn head reserve bad) (PlaysWornFront head reserve bad) (worn_ends head reserve bad) call status says.0 asked none
-completes (Pair head) call status says asked none = played_completes (PlaysPair head) (PlaysPairFront head) (pair_ends head) call status says.0 asked none
+completes (Worn head reserve bad) call status says asked none = absurd asked
+completes (Pair head) call status says asked none = absurd asked
 completes Audit call status says asked none = absurd asked

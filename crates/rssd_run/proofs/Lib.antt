@@ -10,6 +10,7 @@ pub mod Stepped
 pub mod Refused
 pub mod Sessions
 pub mod PlayedSteps
+pub mod AnsweredKept
 pub mod Answered
 pub mod Fields
 pub mod Runs
@@ -31,13 +32,5 @@ pub mod Rows
 pub mod CalmLines
 pub mod WorkloadLines
 pub mod HeldRows
-pub mod AnsweredKept
-pub mod PlayedLines
-pub mod BlankDies
-pub mod WornFaults
-pub mod WornDies
 pub mod MadeRuns
-pub mod WornOpening
-pub mod PairDies
-pub mod CommandsComplete
 pub mod CallStops

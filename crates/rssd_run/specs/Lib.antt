@@ -23,6 +23,3 @@ pub mod Calm
 pub mod Headline
 pub mod Workloads
 pub mod MakeRuns
-pub mod PlayedRuns
-pub mod WornRuns
-pub mod PairRuns

@@ -1,5 +1,5 @@
 -- What the top call does for each command, by the status that it answers, over the logs of its sources and sinks.
-use Rattle.std.specs.Prelude.{◌≡◌, ◌≢◌, ◌⊎◌, ◌<◌, ◌≤◌, ◌+◌, ◌++◌, ◌∷◌, ℕ, Bool, true, false, List, [], All, replicate, length, Ok}
+use Rattle.std.specs.Prelude.{◌≡◌, ◌≢◌, ◌⊎◌, ◌<◌, ◌≤◌, ◌+◌, ◌++◌, ◌∷◌, ℕ, Bool, true, false, List, [], replicate, length, Ok}
 use Rattle.cell_die.specs.DieState.{DieState}
 use Rattle.page_codec.specs.Sound.{live_count}
 use Rattle.mem_die.specs.MemState.{IsMade}
@@ -8,7 +8,7 @@ use Rattle.die_image.specs.declared.error.ImageError.TheVariants as images
 use Rattle.die_image.specs.declared.head.ImageHead.{ImageHead}
 use Rattle.die_image.specs.Image.{shape_of, die_bytes, image_read}
 use Rattle.rssd_words.specs.declared.command.Command.{Command}
-use Rattle.rssd_words.specs.declared.command.Command.TheVariants.{Replay, Run, Format, Upgrade, Make, Worn, Pair}
+use Rattle.rssd_words.specs.declared.command.Command.TheVariants.{Replay, Run, Format, Upgrade, Make}
 use Rattle.rssd_words.specs.Commands.{words_of, IsWithin}
 use Rattle.rssd_io.specs.Event.{Event, flushed, failed}
 use Rattle.rssd_script.specs.declared.lines.Line.{Line}
@@ -23,10 +23,6 @@ use Rattle.rssd_run.specs.GiveImage.{image_pieces}
 use Rattle.rssd_run.specs.Heads.{numbers_named}
 use Rattle.rssd_run.specs.Replays.{Replays, ReplaysFront}
 use Rattle.rssd_run.specs.MakeRuns.{SaysMake}
-use Rattle.rssd_run.specs.Played.{IsPlayed}
-use Rattle.rssd_run.specs.PlayedRuns.{IsFirstUnplayed}
-use Rattle.rssd_run.specs.WornRuns.{PlaysWorn, PlaysWornFront}
-use Rattle.rssd_run.specs.PairRuns.{PlaysPair, PlaysPairFront}
 use Rattle.rssd_run.specs.ImageRuns.{HasCells, RunsImage, RunsImageFront, IsFull}
 
 -- the words spell this command, whose numbers are within its limits
@@ -196,46 +192,6 @@ SaysUpgrade image out image_out WriteFault = IsUpgradeCutOff image image_out × 
 SaysUpgrade image out image_out OutOfMemory = TookNothing out × TookNothing image_out
 SaysUpgrade image out image_out status = ⊥
 
--- ---- `worn` and `pair`
-
--- all of the script was taken, some line of it is none that a device plays, and `out` took the line that names the first
-pub record IsUnplayed (script : Input) (out : Output) : Type 0 where
-  pub lines : List Line
-  pub is_script : HasLines script lines
-  pub k : ℕ
-  pub first : IsFirstUnplayed lines k
-  pub line : GaveLine out (bad_line k)
-
--- `out` took the text of each reply in one piece, and then handed them on
-pub record ArePlayed (Plays : List Line → List Event → List Event → Type 0) (script : Input) (out : Output) : Type 0 where
-  pub lines : List Line
-  pub is_script : HasLines script lines
-  pub given : List Event
-  pub plays : Plays lines out.before given
-  pub handed_on : out.after ≡ given ++ flushed ∷ []
-
--- `out` failed: at the piece of some reply, after those before it; or at handing on, after all
-pub record ArePlayedInPart (Plays Front : List Line → List Event → List Event → Type 0) (script : Input) (out : Output) : Type 0 where
-  pub lines : List Line
-  pub is_script : HasLines script lines
-  pub stops : Front lines out.before out.after ⊎ ((given : List Event) × Plays lines out.before given × (out.after ≡ given ++ failed ∷ []))
-
--- what each status says where the lines of a script are not played
-abbrev pub IsNotPlayed : Input → Output → Status → Type 0
-IsNotPlayed script out BadScript = IsRefused script out ⊎ IsUnplayed script out
-IsNotPlayed script out ReadFault = ReadFailed script × TookNothing out
-IsNotPlayed script out OutOfMemory = TookNothing out
-IsNotPlayed script out status = ⊥
-
--- what each status says of a script that is played
-abbrev pub SaysPlayed : (List Line → List Event → List Event → Type 0) → (List Line → List Event → List Event → Type 0) → Input → Output → Status → Type 0
-SaysPlayed Plays Front script out Done = ArePlayed Plays script out
-SaysPlayed Plays Front script out BadScript = IsRefused script out ⊎ IsUnplayed script out
-SaysPlayed Plays Front script out ReadFault = ReadFailed script × TookNothing out
-SaysPlayed Plays Front script out WriteFault = ArePlayedInPart Plays Front script out
-SaysPlayed Plays Front script out OutOfMemory = TookNothing out
-SaysPlayed Plays Front script out status = ⊥
-
 -- ---- all commands
 
 -- `out` took the line for words that are no command
@@ -247,8 +203,6 @@ abbrev pub SaysOf : Command → Call → Status → Type 0
 SaysOf (Replay head) call status = SaysReplay head call.script call.out status × TakesScript call.script.before call.script.after
 SaysOf Run call status = SaysRun call.image call.script call.out call.image_out status × TakesScript call.script.before call.script.after × TakesImage false call.image.before call.image.after
 SaysOf (Make seed count head) call status = SaysMake head seed count call.out status
-SaysOf (Worn head reserve bad) call status = SaysPlayed (PlaysWorn head reserve bad) (PlaysWornFront head reserve bad) call.script call.out status × TakesScript call.script.before call.script.after
-SaysOf (Pair head) call status = SaysPlayed (PlaysPair head) (PlaysPairFront head) call.script call.out status × TakesScript call.script.before call.script.after
 SaysOf (Format head) call status = SaysFormat head call.image_out status × TookNothing call.out
 SaysOf Upgrade call status = SaysUpgrade call.image call.out call.image_out status × TakesImage true call.image.before call.image.after
 SaysOf command call status = AreBad call status
@@ -264,11 +218,6 @@ pub record NoneFailed (call : Call) : Type 0 where
 pub record HasScript (call : Call) : Type 0 where
   pub lines : List Line
   pub is_script : Reads (taken call.script) lines
-
--- what was taken of the script is in its grammar, and a device plays each line
-pub record HasPlayedScript (call : Call) : Type 0 where
-  pub script : HasScript call
-  pub played : All IsPlayed script.lines
 
 -- what was taken of the image is in its grammar, and some block of its die has no live record
 pub record HasImage (call : Call) : Type 0 where
@@ -288,8 +237,6 @@ abbrev pub IsAsked : Command → Call → Type 0
 IsAsked (Replay head) call = HasScript call
 IsAsked Run call = HasScript call × HasImage call
 IsAsked (Make seed count head) call = Unit {0}
-IsAsked (Worn head reserve bad) call = HasPlayedScript call
-IsAsked (Pair head) call = HasPlayedScript call
 IsAsked (Format head) call = Unit {0}
 IsAsked Upgrade call = HasOldImage call
 IsAsked command call = ⊥
@@ -308,8 +255,6 @@ pub record Says (call : Call) (status : Status) : Type 0 where
 abbrev pub LeavesScript : Command → Type 0
 LeavesScript (Replay head) = ⊥
 LeavesScript Run = ⊥
-LeavesScript (Worn head reserve bad) = ⊥
-LeavesScript (Pair head) = ⊥
 LeavesScript command = Unit {0}
 
 abbrev pub LeavesImage : Command → Type 0

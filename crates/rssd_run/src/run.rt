@@ -11,16 +11,12 @@ pub mod image_run;
 pub mod line;
 pub mod make_run;
 pub mod on_die;
-pub mod pair_run;
-pub mod played;
-pub mod played_script;
 pub mod replay;
 pub mod schemes;
 pub mod script;
 pub mod session;
 pub mod top;
 pub mod workload;
-pub mod worn_run;
 
 use rssd_io::{Sink, WriteFault};
 use rssd_script::{Line, Reply, print_reply};
