@@ -21,5 +21,5 @@ unflushed old given new pieces came stops = failed_since old new pieces (stops �
 pub never_refused : (call : Call) → HasScript call → IsRefused call.script call.out → ⊥
 never_refused call script says = elim says [
   | inl long ↦ (let more = long.0 in let short = script.is_script.0 in omega (arith, more, short))
-  | inr bad ↦ no_bad (taken call.script) script.lines bad.0 script.is_script.1 bad.2.0
+  | inr bad ↦ no_bad (taken call.script) script.lines bad.0 script.is_script.1 bad.2
 ]

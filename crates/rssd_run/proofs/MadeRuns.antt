@@ -8,7 +8,7 @@ use Rattle.die_image.specs.Schemes.{row_of}
 use Rattle.collector.proofs.Rows.{rows_long}
 use Rattle.rssd_script.specs.declared.lines.Line.{Line}
 use Rattle.rssd_script.specs.declared.lines.Line.TheVariants.{Read, Stat}
-use Rattle.rssd_work.specs.Workload.{after_words, next_line, words_drawn, workload_from}
+use Rattle.rssd_work.specs.Workload.{after_words, next_line, words_drawn, workload, workload_from}
 use Rattle.rssd_script.specs.declared.replies.Reply.{Reply}
 use Rattle.rssd_script.specs.declared.replies.Reply.TheVariants.{Bytes, Stat as Counts}
 use Rattle.rssd_core.specs.DeviceValue.{Numbers, rows_of}
@@ -63,7 +63,7 @@ module _ (d : Numbers) (old new : SessionValue) (rows : List (List ℕ)) (has : 
   row_read sector reply within steps =
       let s : IsCalmStep d new has.view (Read sector) reply = calm_step d (Read sector) reply old new has.view has.calm tt numbers steps in
       let row : ReadRow rows (get_or rows sector []) reply s.after.array
-      = subst (λ (array : ArrayState). Row d.geometry.sector_bytes array (Read sector) reply s.after.array) has.rows s.step.row in
+      = subst (λ (array : ArrayState). Row d.geometry.sector_bytes array (Read sector) reply s.after.array) has.on s.step.row in
       let as_many = has.as_many in
       let told = read_told rows (get_or rows sector []) reply s.after.array row s.never.no_fault
       (λ range. let past : d.geometry.sectors ≤ sector = (s.step.answers.refused.range.0 range).1 in omega (arith, past, within, as_many)) in
@@ -71,7 +71,7 @@ module _ (d : Numbers) (old new : SessionValue) (rows : List (List ℕ)) (has : 
         bytes = told.bytes;
         reply_is = told.reply_is;
         row_is = told.row_is;
-        has = record { view = s.after; calm = s.calm; rows = told.same; as_many = as_many };
+        has = record { view = s.after; calm = s.calm; on = told.same; as_many = as_many };
       }
 
 -- ---- the whole run
@@ -88,6 +88,12 @@ calm_start head die fresh session starts =
       no_cut = unarmed.cut;
       no_read_failure = unarmed.read;
     }
+
+-- the lines that were stepped are those of the head
+pub stepped_named : (head : ImageHead) (seed count sector_bytes : ℕ) → sector_bytes ≡ (row_of head.scheme).sector_bytes → (old mid : SessionValue)
+    → StepsLines (numbers_named head) (workload seed count head.sectors sector_bytes) old mid → StepsLines (numbers_named head) (lines_made head seed count) old mid
+stepped_named head seed count sector_bytes same old mid steps =
+    subst (λ (n : ℕ). StepsLines (numbers_named head) (workload seed count head.sectors n) old mid) same steps
 
 -- a run of the workload, the reply to `stat` after it, and the rows that are then read
 pub record IsMade (head : ImageHead) (seed count : ℕ) (stat : Reply) (session : SessionValue) : Type 0 where
@@ -116,7 +122,7 @@ module _ (head : ImageHead) (die : DieState) (fresh : IsFresh head die) (seed co
           on = rows.1;
         };
         stat_is = told.0;
-        has = record { view = s.after; calm = s.calm; rows = on; as_many = rows_stand d rows.0 e s.step on };
+        has = record { view = s.after; calm = s.calm; on = on; as_many = rows_stand d rows.0 e s.step on };
       }
 
 -- ---- no reply of it is a fault

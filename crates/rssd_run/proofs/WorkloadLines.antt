@@ -1,5 +1,5 @@
 -- The lines of a workload: what they draw, and that a session takes each of them.
-use Rattle.std.proofs.Common.{◌≡◌, ℕ, zero, suc, ◌+◌, ◌*◌, ◌/◌, ◌%◌, ◌^◌, ◌<◌, Bool, true, false, List, [], ◌∷◌, refl, sym, ap, ◌∙◌, arith, if◌then◌else◌}
+use Rattle.std.proofs.Common.{◌≡◌, ℕ, zero, suc, ◌+◌, ◌*◌, ◌/◌, ◌%◌, ◌-◌, ◌^◌, ◌<◌, ◌≤◌, Bool, true, false, List, [], ◌∷◌, ◌++◌, length, refl, sym, ap, ◌∙◌, arith, if◌then◌else◌, append_assoc, append-nil, length-append}
 use Rattle.std.specs.Prelude.{◌==◌}
 use Rattle.std.proofs.Math.Nat.{add-mul-mod_self_left, div-add-mod}
 use Rattle.rand_xoshiro.specs.SplitMix64.{next_state}
@@ -80,3 +80,24 @@ after_words-wrapping words state small = mod-add-right state (stride * words) (2
 pub workload-one : (state sectors sector_bytes : ℕ) → workload state 1 sectors sector_bytes ≡ next_line sectors sector_bytes state ∷ []
 unfolding workload_from
 workload-one state sectors sector_bytes = refl
+
+pub last_of_one : (front : List Line) (last one : Line) → front ++ last ∷ [] ≡ one ∷ [] → last ≡ one
+last_of_one [] last one same = cc
+last_of_one (first ∷ front) last one same = absurd (omega (arith, ap (length {A = Line}) same, length-append front (last ∷ [])))
+
+-- ---- one line more is drawn, and none is left
+
+module _ (n count sectors sector_bytes state : ℕ) (lines : List Line) where
+  pub one_more_line : n < count → (lines ++ next_line sectors sector_bytes state ∷ []) ++ workload_from (count - (n + 1)) sectors sector_bytes (after_words (words_drawn sector_bytes state) state)
+      ≡ lines ++ workload_from (count - n) sectors sector_bytes state
+  unfolding workload_from
+  one_more_line more =
+      let left : count - n ≡ suc (count - (n + 1)) = omega arith in
+      append_assoc lines (next_line sectors sector_bytes state ∷ []) (workload_from (count - (n + 1)) sectors sector_bytes (after_words (words_drawn sector_bytes state) state))
+      ∙ ap (λ (left : ℕ). lines ++ workload_from left sectors sector_bytes state) (sym left)
+
+  pub all_lines : count ≤ n → lines ++ workload_from (count - n) sectors sector_bytes state ≡ lines
+  unfolding workload_from
+  all_lines none =
+      let left : count - n ≡ 0 = omega arith in
+      ap (λ (left : ℕ). lines ++ workload_from left sectors sector_bytes state) left ∙ append-nil lines

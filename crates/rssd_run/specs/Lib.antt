@@ -23,3 +23,4 @@ pub mod Calm
 pub mod Headline
 pub mod Workloads
 pub mod MakeRuns
+pub mod Upgrades

@@ -40,7 +40,7 @@ StepsLines d lines old new = (before : View) → IsCalmAt d old before → (afte
 pub record HasRows (d : Numbers) (session : SessionValue) (rows : List (List ℕ)) : Type 0 where
   pub view : View
   pub calm : IsCalmAt d session view
-  pub rows : view.array ≡ On rows
+  pub on : view.array ≡ On rows
   pub as_many : length rows ≡ d.geometry.sectors
 
 -- some byte of a row is not zero

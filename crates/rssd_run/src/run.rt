@@ -16,6 +16,7 @@ pub mod schemes;
 pub mod script;
 pub mod session;
 pub mod top;
+pub mod upgrade;
 pub mod workload;
 
 use rssd_io::{Sink, WriteFault};

@@ -14,7 +14,7 @@ use crate::run::on_die::{RunError, start};
 use crate::run::replay::blank_die;
 use crate::run::schemes::{cosets, flips, pairs, plains, sevens};
 use crate::run::session::Session;
-use crate::run::workload::{held_text, read_held, step_workload};
+use crate::run::workload::{Seeded, held_text, read_held, step_workload};
 use crate::status::Status;
 use die_image::{ImageHead, SchemeName};
 use mem_die::MemDie;
@@ -24,13 +24,6 @@ use rssd_io::{Sink, WriteFault};
 use rssd_script::{Line, print_reply};
 use std::alloc::{AllocError, Global};
 use striped::Scheme;
-
-/// A seed, and how many lines are drawn from it.
-#[derive(Clone, Copy)]
-pub struct Seeded {
-    pub seed: u64,
-    pub count: u32,
-}
 
 /// Gives two lines to `out`, each in one piece.
 fn tell<O: Sink>(out: &mut O, stat: &[u8], held: &[u8]) -> Result<(), WriteFault>
@@ -60,10 +53,15 @@ fn make_with<C: Scheme + Drop, F: PowerDevice<MemDie, C>, O: Sink>(
 {
     let mut session: Session<MemDie, C, F> = start(alloc, head, scheme, die)?;
     let sector_bytes = head.scheme.sector_bytes();
-    let stepped = step_workload(alloc, &mut session, seeded.seed, seeded.count, head.sectors, sector_bytes);
-    if stepped.is_err() {
+    let Ok(()) = step_workload(
+        alloc,
+        &mut session,
+        seeded,
+        head.sectors,
+        sector_bytes,
+    ) else {
         return Err(RunError::OutOfMemory);
-    }
+    };
     let stat = session.step(alloc, &Line::Stat);
     let held = read_held(alloc, &mut session, head.sectors);
     match tell(out, print_reply(&stat).as_slice(), held_text(held).as_slice()) {

@@ -11,6 +11,13 @@ use rssd_script::{Line, OutOfMemory, Reply};
 use rssd_work::make;
 use std::alloc::Global;
 
+/// A seed, and how many lines are drawn from it.
+#[derive(Clone, Copy)]
+pub struct Seeded {
+    pub seed: u64,
+    pub count: u32,
+}
+
 /// By how much the state of the words goes up with each.
 const STRIDE: u64 = 0x9e37_79b9_7f4a_7c15;
 
@@ -57,17 +64,16 @@ fn draw(
 pub fn step_workload<S: Stepping>(
     alloc: Global,
     session: &mut S,
-    seed: u64,
-    count: u32,
+    seeded: Seeded,
     sectors: u32,
     sector_bytes: u32,
 ) -> Result<(), OutOfMemory>
     requires sectors { 1 ≤ sectors }
     requires sector_bytes { (sector_bytes ≡ 16) ⊎ (sector_bytes ≡ 512) }
-    ensures { OnOk result ((d : Numbers) → StepsLines d (workload seed count sectors sector_bytes) (S.session session.old) (S.session session.new)) }
+    ensures { OnOk result ((d : Numbers) → StepsLines d (workload seeded.seed seeded.count sectors sector_bytes) (S.session session.old) (S.session session.new)) }
 {
-    let mut state = seed;
-    for _ in 0..count {
+    let mut state = seeded.seed;
+    for _ in 0..seeded.count {
         let line = draw(alloc, &mut state, sectors, sector_bytes)?;
         let _reply = session.step(alloc, &line);
     }
