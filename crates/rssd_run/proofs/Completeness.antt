@@ -48,7 +48,7 @@ run_stopped call (inr all) = let grew = all.1.runs.runs.grew in unflushed call.o
 never_refused : (call : Call) → HasScript call → IsRefused call.script call.out → ⊥
 never_refused call script says = elim says [
   | inl long ↦ (let more = long.0 in let short = script.is_script.0 in omega (arith, more, short))
-  | inr bad ↦ no_bad (taken call.script) script.lines bad.0 script.is_script.1 bad.2.0
+  | inr bad ↦ no_bad (taken call.script) script.lines bad.0 script.is_script.1 bad.2
 ]
 
 never_full : (call : Call) (image : HasImage call) (head : ImageHead) (cells : List ℕ) → head ≡ image.head → cells ≡ image.cells → IsFull head cells → ⊥

@@ -4,7 +4,7 @@ use Rattle.cell_die.specs.DieState.{DieState}
 use Rattle.page_codec.specs.Sound.{IsSound}
 use Rattle.rssd_core.specs.DeviceValue.{Numbers}
 use Rattle.rssd_core.specs.Failures.{cut_of}
-use Rattle.rssd_io.specs.Event.{Event as Call, moved, failed}
+use Rattle.rssd_io.specs.Event.{Event as Act, moved, failed}
 use Rattle.rssd_io.specs.Pieces.{Gives, all_given}
 use Rattle.rssd_script.specs.declared.lines.Line.{Line}
 use Rattle.rssd_script.specs.declared.lines.Line.TheVariants.{Cut}
