@@ -8,6 +8,7 @@ use Rattle.rssd_run.specs.GiveImage.{cut, pages_in}
 
 -- so many pieces at most are enough
 cut_enough : (size most more : ℕ) (bytes : List ℕ) → 0 < size → length bytes ≤ most → length bytes ≤ more → cut size most bytes ≡ cut size more bytes
+unfolding cut
 cut_enough size zero zero bytes some fits fits_too = refl
 cut_enough size zero (suc more) [] some fits fits_too = refl
 cut_enough size (suc most) zero [] some fits fits_too = refl
@@ -31,6 +32,7 @@ front (suc size) (byte ∷ piece) behind fits =
 
 -- the first page, and those behind it
 pub pages_more : (size : ℕ) (piece behind : List ℕ) → 0 < size → 0 < length piece → length piece ≡ min size (length (piece ++ behind)) → pages_in size (piece ++ behind) ≡ piece ∷ pages_in size behind
+unfolding cut
 pages_more size [] behind some any fits = absurd (omega (arith, any))
 pages_more size (byte ∷ piece) behind some any fits =
     let both = front size (byte ∷ piece) behind fits in
@@ -102,6 +104,7 @@ given_head_part old new head bytes pages n is came =
 
 -- no byte is left: all was given
 pub given_whole : (old new : List Event) (whole : List (List ℕ)) (size : ℕ) (rest : List ℕ) → IsGiven old new whole (pages_in size rest) → length rest ≡ 0 → Gives whole old new
+unfolding cut
 given_whole old new whole size rest is none =
     let left : pages_in size rest ≡ [] = ap (pages_in size) (nil_from_length rest none) in
     is.given ∙ ap (λ (pieces : List (List ℕ)). old ++ all_given pieces) (sym (append-nil is.front) ∙ (ap (λ (xs : List (List ℕ)). is.front ++ xs) (sym left) ∙ is.both))

@@ -1,5 +1,5 @@
 -- A workload on a blank die: what `stat` and the reads after it tell.
-use Rattle.std.proofs.Common.{◌≡◌, ℕ, zero, suc, ◌<◌, ◌≤◌, false, All, List, [], length, get_or, refl, sym, ap, ◌∙◌, arith, subst}
+use Rattle.std.proofs.Common.{◌≡◌, ℕ, zero, suc, ◌<◌, ◌≤◌, false, All, List, [], ◌∷◌, length, get_or, refl, sym, ap, ap₂, ◌∙◌, arith, subst}
 use Rattle.std.specs.List.{AllByRecursion}
 use Rattle.std.proofs.lemmas.List.Elements.{All-from_recursion}
 use Rattle.cell_die.specs.DieState.{DieState}
@@ -8,6 +8,7 @@ use Rattle.die_image.specs.Schemes.{row_of}
 use Rattle.collector.proofs.Rows.{rows_long}
 use Rattle.rssd_script.specs.declared.lines.Line.{Line}
 use Rattle.rssd_script.specs.declared.lines.Line.TheVariants.{Read, Stat}
+use Rattle.rssd_script.specs.Replies.{reply_line}
 use Rattle.rssd_work.specs.Workload.{after_words, next_line, words_drawn, workload, workload_from}
 use Rattle.rssd_script.specs.declared.replies.Reply.{Reply}
 use Rattle.rssd_script.specs.declared.replies.Reply.TheVariants.{Bytes, Stat as Counts}
@@ -19,7 +20,7 @@ use Rattle.rssd_run.specs.Step.{IsStep, StatAnswer}
 use Rattle.rssd_run.specs.Shows.{SessionValue, HasNumbers, StepsSession, stat_of}
 use Rattle.rssd_run.specs.Heads.{numbers_named}
 use Rattle.rssd_run.specs.DieRuns.{StartsOn}
-use Rattle.rssd_run.specs.Workloads.{IsCalmAt, RunsLines, StepsLines, HasRows}
+use Rattle.rssd_run.specs.Workloads.{IsCalmAt, RunsLines, StepsLines, HasRows, held_count, byte_sum, held_line}
 use Rattle.rssd_run.specs.Calm.{is_arming, IsCalm}
 use Rattle.rssd_run.specs.MakeRuns.{Makes, lines_made, told_of}
 use Rattle.rssd_run.proofs.BlankStart.{IsFresh, blank_start}
@@ -124,6 +125,12 @@ module _ (head : ImageHead) (die : DieState) (fresh : IsFresh head die) (seed co
         stat_is = told.0;
         has = record { view = s.after; calm = s.calm; on = on; as_many = rows_stand d rows.0 e s.step on };
       }
+
+-- the two lines tell it
+pub told_same : {head : ImageHead} {seed count : ℕ} {stat : Reply} {session : SessionValue} (m : IsMade head seed count stat session) (first second : List ℕ) (held total : ℕ)
+    → first ≡ reply_line stat → second ≡ held_line held total → held ≡ held_count m.made.rows → total ≡ byte_sum m.made.rows → (first ∷ second ∷ []) ≡ told_of m.made
+told_same m first second held total first_is second_is held_is total_is =
+    λ i. (first_is ∙ ap reply_line m.stat_is) i ∷ (second_is ∙ ap₂ held_line held_is total_is) i ∷ []
 
 -- ---- no reply of it is a fault
 

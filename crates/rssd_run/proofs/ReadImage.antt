@@ -33,8 +33,8 @@ fed_more old between new was fed next piece is adds fits next-is =
     })
 
 -- a take of nothing
-pub took_none : {between new : List Event} (count : ℕ) (into : List ℕ) → count ≡ 0 → Adds (moved (take count into)) between new → Adds (moved []) between new
-took_none {between = between} {new = new} count into none adds = subst (λ (n : ℕ). Adds (moved (take n into)) between new) none adds
+pub took_none : (between new : List Event) (count : ℕ) (into : List ℕ) → count ≡ 0 → Adds (moved (take count into)) between new → Adds (moved []) between new
+took_none between new count into none adds = subst (λ (n : ℕ). Adds (moved (take n into)) between new) none adds
 
 -- the source is at its end
 pub fed_same : (old between new : List Event) (was fed : Fed) → IsFed old between was fed → Adds (moved []) between new → IsFed old new was fed

@@ -5,7 +5,7 @@ use Rattle.die_image.specs.declared.head.ImageHead.{ImageHead}
 use Rattle.die_image.specs.Image.{image, shape_of}
 
 -- bytes in pieces of one size, the last of them shorter where they do not fill it, and so many pieces at most
-pub cut : ℕ → ℕ → List ℕ → List (List ℕ)
+unfoldable pub cut : ℕ → ℕ → List ℕ → List (List ℕ)
 cut size zero bytes = []
 cut size (suc most) [] = []
 cut size (suc most) (byte ∷ bytes) = take size (byte ∷ bytes) ∷ cut size most (drop size (byte ∷ bytes))

@@ -81,7 +81,7 @@ pub record AreGiven (image script : Input) (lines : List Line) (head : ImageHead
   pub is_script : HasLines script lines
   pub is_image : IsImageOf false image head cells
 
--- the lines were run on a die of the image, `out` took the text of each reply in one piece, and these are the cells that are left
+-- the lines were run on a die of the image, and `out` took the text of each reply in one piece
 pub record AllRun (image script : Input) (out : Output) (given : List Event) : Type 0 where
   pub lines : List Line
   pub head : ImageHead
@@ -89,15 +89,15 @@ pub record AllRun (image script : Input) (out : Output) (given : List Event) : T
   pub are_given : AreGiven image script lines head cells
   pub last : DieState
   pub runs : RunsImage head cells lines out.before given last
-  pub left : List ℕ
-  pub last_cells : HasCells left last
 
--- `out` handed the replies on, and then `image_out` took the image of those cells, and handed it on
+-- `out` handed the replies on, and then `image_out` took the image of the cells that are left, and handed it on
 pub record IsRun (image script : Input) (out image_out : Output) : Type 0 where
   pub given : List Event
   pub all : AllRun image script out given
   pub handed_on : out.after ≡ given ++ flushed ∷ []
-  pub written : Took image_out (image_pieces all.head all.left)
+  pub left : List ℕ
+  pub last_cells : HasCells left all.last
+  pub written : Took image_out (image_pieces all.head left)
 
 -- `out` failed at the piece of some reply, after those before it
 pub record StopsRun (image script : Input) (out : Output) : Type 0 where
@@ -117,7 +117,9 @@ pub record IsImageCutOff (image script : Input) (out image_out : Output) : Type 
   pub given : List Event
   pub all : AllRun image script out given
   pub handed_on : out.after ≡ given ++ flushed ∷ []
-  pub written : TookPart image_out (image_pieces all.head all.left)
+  pub left : List ℕ
+  pub last_cells : HasCells left all.last
+  pub written : TookPart image_out (image_pieces all.head left)
 
 -- what was taken is no image of this version, whatever follows it, and `out` took the line that says why
 pub record IsNoImage (is_old : Bool) (image : Input) (out : Output) : Type 0 where

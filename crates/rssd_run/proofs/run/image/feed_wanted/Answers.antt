@@ -7,19 +7,19 @@ use Rattle.rssd_run.proofs.run.image.feed_wanted.Goals as goal
 
 pub returns-in-Ok-eq0-clause-fed : goal.returns-in-Ok-eq0-clause-fed
 returns-in-Ok-eq0-clause-fed g c =
-    fed_same _ _ _ c.args.reader.now c.loop-room.reader c.loop-room.invariant.fed (took_none c.in-Ok-eq0.field-0 c.take.new.into c.in-Ok-eq0.field-0-test c.in-Ok-eq0.ensures.log)
+    fed_same _ _ _ c.args.reader.now c.loop-room.reader c.loop-room.invariant.fed (took_none _ _ c.in-Ok-eq0.field-0 c.take.new.into c.in-Ok-eq0.field-0-test c.in-Ok-eq0.ensures.log)
 
 pub returns-in-Ok-eq0-clause-all : goal.returns-in-Ok-eq0-clause-all
 returns-in-Ok-eq0-clause-all g c =
-    inl (has_ended _ _ _ c.args.reader.now c.loop-room.reader c.loop-room.invariant.fed (took_none c.in-Ok-eq0.field-0 c.take.new.into c.in-Ok-eq0.field-0-test c.in-Ok-eq0.ensures.log))
+    inl (has_ended _ _ _ c.args.reader.now c.loop-room.reader c.loop-room.invariant.fed (took_none _ _ c.in-Ok-eq0.field-0 c.take.new.into c.in-Ok-eq0.field-0-test c.in-Ok-eq0.ensures.log))
 
 pub returns-in-Ok-eq0-clause-bounded : goal.returns-in-Ok-eq0-clause-bounded
 returns-in-Ok-eq0-clause-bounded g c =
     taken _ _ c.args.reader.now c.loop-room.reader
-    (fed_same _ _ _ c.args.reader.now c.loop-room.reader c.loop-room.invariant.fed (took_none c.in-Ok-eq0.field-0 c.take.new.into c.in-Ok-eq0.field-0-test c.in-Ok-eq0.ensures.log))
+    (fed_same _ _ _ c.args.reader.now c.loop-room.reader c.loop-room.invariant.fed (took_none _ _ c.in-Ok-eq0.field-0 c.take.new.into c.in-Ok-eq0.field-0-test c.in-Ok-eq0.ensures.log))
 
 pub returns-in-Err-feed-clause-refused : goal.returns-in-Err-feed-clause-refused
-returns-in-Err-feed-clause-refused g c = stuck _ _ _ _ c.args.reader.now c.loop-room.reader _ c.loop-room.invariant.fed c.in-Ok.ensures.log
+returns-in-Err-feed-clause-refused g c = stuck c.args.reader.now.is_old _ _ _ c.args.reader.now c.loop-room.reader _ c.loop-room.invariant.fed c.in-Ok.ensures.log
 
 pub returns-in-Err-feed-clause-bounded : goal.returns-in-Err-feed-clause-bounded
 returns-in-Err-feed-clause-bounded g c =
@@ -47,7 +47,7 @@ loop-room-preserved g c =
     }
 
 pub returns-in-Err-clause-refused : goal.returns-in-Err-clause-refused
-returns-in-Err-clause-refused g c = fault _ _ _ _ c.args.reader.now c.loop-room.reader c.loop-room.invariant.fed c.in-Err.ensures.log
+returns-in-Err-clause-refused g c = fault c.args.reader.now.is_old _ _ _ c.args.reader.now c.loop-room.reader c.loop-room.invariant.fed c.in-Err.ensures.log
 
 pub returns-in-Err-clause-bounded : goal.returns-in-Err-clause-bounded
 returns-in-Err-clause-bounded g c = taken_failed _ _ _ c.args.reader.now c.loop-room.reader c.loop-room.invariant.fed c.in-Err.ensures.log

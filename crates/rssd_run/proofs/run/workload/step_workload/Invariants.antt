@@ -11,4 +11,4 @@ abbrev pub invariant-loop : goal.invariant-loop
 invariant-loop g l = (d : Numbers) (before : View) → IsCalmAt d (g.S.Stepping.session l.fn.session) before
     → (now : View) × IsCalmAt d (g.S.Stepping.session l.session) now
     × ((lines : List Line) × RunsLines d before lines now
-    × (lines ++ workload_from (l.seeded.count - l.counter) l.sectors l.sector_bytes l.state ≡ workload_from l.seeded.count l.sectors l.sector_bytes l.seeded.seed))
+    × (lines ++ workload_from (l.fn.seeded.count - l.counter) l.sectors l.sector_bytes l.state ≡ workload_from l.fn.seeded.count l.sectors l.sector_bytes l.fn.seeded.seed))
