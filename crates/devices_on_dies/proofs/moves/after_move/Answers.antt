@@ -1,7 +1,7 @@
 -- The tables are true to a blank die, and stay true where a Clean block opens.
 use Rattle.std.proofs.Common.{rules, refl}
-use Rattle.move_rows.proofs.Writes.{begun_at}
-use Rattle.move_rows.proofs.moves.after_move.Goals as goal
+use Rattle.devices_on_dies.proofs.Writes.{begun_at}
+use Rattle.devices_on_dies.proofs.moves.after_move.Goals as goal
 
 pub write-requires-clause-tables : goal.write-requires-clause-tables
 write-requires-clause-tables g c =

@@ -1,8 +1,8 @@
 -- What the scan says of its own numbers holds of those of the scheme.
 use Rattle.std.proofs.Common.{length}
 use Rattle.cell_die.specs.DieState.{page_count}
-use Rattle.collect_rows.proofs.Mounted.{scanned_true}
-use Rattle.collect_rows.proofs.collected.mount_true.Goals as goal
+use Rattle.devices_on_dies.proofs.Mounted.{scanned_true}
+use Rattle.devices_on_dies.proofs.collected.mount_true.Goals as goal
 
 pub returns-clause-tables : goal.returns-clause-tables
 returns-clause-tables g c =
