@@ -1,5 +1,5 @@
 -- The bytes of one page: main bytes have no pad cell, and of a slot the gate byte and the last byte have some.
-use Rattle.std.proofs.Common.{◌≡◌, ℕ, ◌+◌, ◌-◌, ◌*◌, ◌/◌, ◌%◌, ◌<◌, ◌≤◌, Bool, true, false, ◌&&◌, ◌==◌, nat_lt, if◌then◌else◌, List, length, get_or, refl, sym, subst, ◌∙◌, inl, inr, arith}
+use Rattle.std.proofs.Common.{◌≡◌, ℕ, ◌+◌, ◌-◌, ◌*◌, ◌/◌, ◌%◌, ◌<◌, ◌≤◌, Bool, true, false, ◌&&◌, ◌==◌, nat_lt, if◌then◌else◌, List, get_or, refl, subst, ◌∙◌, inl, inr, arith}
 use Rattle.std.proofs.lemmas.Bool.{and_parts, cases_lt, eqb-true, le-ltb}
 use Rattle.std.proofs.lemmas.Nat.{div-mul-add}
 use Rattle.std.proofs.Math.Nat.{mul-add-mod_self_right, mod-eq_of_lt}
@@ -51,10 +51,13 @@ last_byte blocks pages main slots page slot byte lt small =
   where
     from : main ≤ main + 16 * slot + 15
     from = omega arith
+
     there : (page * (main + 16 * slots) + (main + 16 * slot + 15)) % (main + 16 * slots) ≡ main + 16 * slot + 15
     there = place_of page (main + 16 * slots) (main + 16 * slot + 15) (omega arith)
+
     the_page : (page * (main + 16 * slots) + (main + 16 * slot + 15)) / (main + 16 * slots) ≡ page
     the_page = div-mul-add page (main + 16 * slots) (main + 16 * slot + 15) (omega arith)
+
     by : (has_seal : Bool) → (slot == 1 && page % pages == 0) ≡ has_seal →
         is_pad_charged_in (shape_with blocks pages main slots) (page * (main + 16 * slots) + (main + 16 * slot + 15)) byte ≡ nat_lt (if has_seal then 1 else 0) byte
     by true e =
@@ -86,17 +89,18 @@ slot_more blocks pages main slots page slot cells lt bytes clean gate last place
   where
     is_clean : ℕ → Type 0
     is_clean index = is_pad_charged_in (shape_with blocks pages main slots) index (get_or cells index 0) ≡ false
+
     by : (k : ℕ) → place ≡ main + 16 * slot + k → k < 16 → is_clean (page * (main + 16 * slots) + place)
     by k is small = elim (cases_lt 0 k) [
       | inr none ↦
           let e : page * (main + 16 * slots) + main + 16 * slot ≡ page * (main + 16 * slots) + place = omega arith in
           subst is_clean e (gate_byte blocks pages main slots page slot _ lt (bytes _) ∙ not_above 1 _ gate)
       | inl some ↦ elim (cases_lt k 15) [
-          | inl before ↦
-              let e : page * (main + 16 * slots) + (main + 16 * slot + k) ≡ page * (main + 16 * slots) + place = omega arith in
-              subst is_clean e (word_byte blocks pages main slots page slot k _ lt some before (bytes _))
-          | inr after ↦
-              let e : page * (main + 16 * slots) + main + 16 * slot + 15 ≡ page * (main + 16 * slots) + place = omega arith in
-              subst is_clean e (last_byte blocks pages main slots page slot _ lt (bytes _) ∙ not_above _ _ last)
+        | inl before ↦
+            let e : page * (main + 16 * slots) + (main + 16 * slot + k) ≡ page * (main + 16 * slots) + place = omega arith in
+            subst is_clean e (word_byte blocks pages main slots page slot k _ lt some before (bytes _))
+        | inr after ↦
+            let e : page * (main + 16 * slots) + main + 16 * slot + 15 ≡ page * (main + 16 * slots) + place = omega arith in
+            subst is_clean e (last_byte blocks pages main slots page slot _ lt (bytes _) ∙ not_above _ _ last)
       ]
     ]

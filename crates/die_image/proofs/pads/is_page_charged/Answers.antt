@@ -1,5 +1,5 @@
 -- Main bytes have no pad cell, and each slot is tested by its gate byte and its last byte.
-use Rattle.std.proofs.Common.{◌≡◌, ℕ, ◌+◌, ◌*◌, ◌<◌, ◌≤◌, length, get_or, ◌∙◌, arith}
+use Rattle.std.proofs.Common.{◌<◌, ◌∙◌, arith}
 use Rattle.std.proofs.lemmas.Bool.{lt-ltb}
 use Rattle.die_image.specs.Image.{shape_of}
 use Rattle.die_image.specs.Schemes.{row_of}

@@ -1,5 +1,5 @@
 -- No byte of the page below the slot has a charged pad cell.
-use Rattle.std.proofs.Common.{ℕ, ◌+◌, ◌*◌}
+use Rattle.std.proofs.Common.{◌+◌, ◌*◌}
 use Rattle.die_image.specs.Schemes.{row_of}
 use Rattle.die_image.proofs.PagePads.{IsCleanBelow}
 use Rattle.die_image.proofs.pads.is_page_charged.Given as goal
