@@ -121,7 +121,7 @@ fn read_rounds<C: Scheme>(scheme: &C, units: &[u8], unit_bytes: usize, page_byte
 }
 
 /// A byte of each page, unit or sector that the rounds make, summed.
-fn rounds_of<C: Scheme>(alloc: Global, mut scheme: C, work: Work, rounds: u32) -> Result<u64> {
+fn rounds_of<C: Scheme + Drop>(alloc: Global, mut scheme: C, work: Work, rounds: u32) -> Result<u64> {
     let page_bytes = scheme.page_bytes() as usize;
     let span = scheme.span() as usize;
     ensure!(scheme.sector_bytes() == 512, "512 bytes");
