@@ -5,6 +5,10 @@ ghost use Rattle.rssd_io.specs.Faults.{AppendsFront};
 ghost use Rattle.rssd_io.specs.Event.{Gave, Flushed};
 ghost use Rattle.rssd_io.specs.Standard.{source_log, sink_log};
 
+mod place;
+
+pub(crate) use place::Place;
+
 use crate::log::Log;
 use crate::{ReadFault, Sink, Source, WriteFault};
 use std::io::{Read, Write};
