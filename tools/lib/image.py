@@ -28,15 +28,26 @@ class Image:
 
     def __init__(self, data):
         self.version, self.head, self.begin = read_head(data)
-        self.scheme = self.head.scheme
-        wanted = self.begin + self.head.die_bytes
-        if len(data) < wanted:
+        self.size = self.begin + self.head.die_bytes
+        if len(data) < self.size:
             raise Refused("bad image short")
-        if len(data) > wanted:
+        if len(data) > self.size:
             raise Refused("bad image long")
-        self.size = wanted
-        self.pages = [data[at : at + self.scheme.whole_page] for at in range(self.begin, wanted, self.scheme.whole_page)]
+        self._take(data[self.begin :])
         self._refuse_pad_cells()
+
+    @classmethod
+    def of_cells(cls, head, cells):
+        """The image of a head and the bytes of its pages."""
+        image = cls.__new__(cls)
+        image.version, image.head, image.begin, image.size = 2, head, 32, 32 + head.die_bytes
+        image._take(cells)
+        return image
+
+    def _take(self, cells):
+        """Reads off the cells what a mount does."""
+        self.scheme = self.head.scheme
+        self.pages = [cells[at : at + self.scheme.whole_page] for at in range(0, len(cells), self.scheme.whole_page)]
         self.records = [record for page in range(len(self.pages)) for record in self._records_of(page)]
         self.live = self._live_records()
         self.live_counts = [0] * self.head.blocks
