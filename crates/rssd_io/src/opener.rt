@@ -2,8 +2,8 @@
 ghost use Rattle.std.specs.Prelude.{◌≡◌, ◌++◌, [], ◌∷◌, MatchResult};
 ghost use Rattle.rssd_io.specs.Event.{failed};
 
-use crate::log::Log;
 use crate::ReadFault;
+use crate::log::Log;
 use std::fs;
 use std::rt::Files;
 

@@ -7,10 +7,9 @@ ghost use Rattle.rssd_io.specs.Standard.{source_log, sink_log};
 
 mod place;
 
-pub(crate) use place::Place;
-
 use crate::log::Log;
 use crate::{ReadFault, Sink, Source, WriteFault};
+pub(crate) use place::Place;
 use std::io::{Read, Write};
 
 /// A reader as a source.

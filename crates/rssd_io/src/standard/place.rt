@@ -63,10 +63,8 @@ impl<'a, R: Files> Place<'a, R> {
 
     /// Creates the file, or notes that this failed.
     pub(crate) fn create(&mut self) -> Result<StdSink<R::File>, WriteFault>
-        ensures {
-            MatchResult result (λ sink. (sink.log.events ≡ self.old.log.events) × (self.new.is_lost ≡ false))
-                (λ _. self.new.log.events ≡ self.old.log.events ++ moved [] ∷ failed ∷ [])
-        }
+        ensures { MatchResult result (λ sink. (sink.log.events ≡ self.old.log.events) × (self.new.is_lost ≡ false))
+            (λ _. self.new.log.events ≡ self.old.log.events ++ moved [] ∷ failed ∷ []) }
     {
         let opened = if self.is_lost {
             None
