@@ -1,0 +1,4 @@
+pub mod Taken
+pub mod Orders
+pub mod Rows
+pub mod InTime
