@@ -1,5 +1,5 @@
 //! What is asked of a device, and the tag by which it is answered.
-ghost use Rattle.std.specs.Prelude.{◌≡◌, ◌≤◌, length};
+ghost use Rattle.std.specs.Prelude.{◌≡◌, ◌≤◌, false, length};
 ghost use Rattle.rssd_core.specs.SectorArray.{filled_up};
 ghost use Rattle.rssd_queue.specs.Asks.{sector_of, is_read as reads, is_long as too_long, filled};
 

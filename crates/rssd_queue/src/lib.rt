@@ -4,6 +4,7 @@
 
 pub mod ask;
 pub mod laws;
+mod order;
 mod pick;
 pub mod queue;
 pub mod serve;

@@ -3,19 +3,15 @@
 //!
 //! Links tell only the front of a list. So the order is turned once around, node by node from its front to its back, and is then
 //! as before: at most 32 steps.
-ghost use Rattle.std.specs.Prelude.{◌≡◌, ◌<◌, ◌∷◌, ◌++◌, ℕ, [], length, drop, MatchOption};
+ghost use Rattle.std.specs.Prelude.{◌≡◌, ◌<◌, ◌∷◌, ℕ, [], length, MatchOption};
 ghost use Rattle.std.specs.List.{find};
-ghost use Rattle.block_links.specs.Lists.{times, IsFront};
-ghost use Rattle.rssd_queue.specs.Kept.{HasNodes, HasChains, IsPickedNode, order_in, unused_in, sector_in, is_free_node};
+ghost use Rattle.std.specs.Option.{option_or};
+ghost use Rattle.block_links.specs.Lists.{times};
+ghost use Rattle.rssd_queue.specs.Kept.{HasNodes, HasChains, IsPickedNode, order_in, sector_in, is_free_node};
 
 use crate::ask::Tagged;
+use crate::order::{ORDER, turn};
 use block_links::Links;
-
-/// The list of the nodes in which commands wait, in the order in which they were accepted.
-pub(crate) const ORDER: u32 = 0;
-
-/// The list of the other nodes.
-pub(crate) const UNUSED: u32 = 1;
 
 /// How often the oldest may be passed.
 const MOST_PASSED: u32 = 32;
@@ -31,20 +27,18 @@ fn is_free(nodes: &[Tagged], chains: &Links, node: u32) -> bool
     ask.is_read() && chains.front(ask.sector()) == Some(node)
 }
 
-/// Moves the front of the order to its back.
-fn turn(order: &mut Links) -> u32
-    requires nodes { HasNodes order.old }
-    requires some { 0 < length (order_in order.old) }
-    ensures front { IsFront (order_in order.old) result }
-    ensures turned { order.new ≡ record order.old { lists = (drop 1 (order_in order.old) ++ result ∷ []) ∷ unused_in order.old ∷ [] } }
-    ensures nodes { HasNodes order.new }
+/// What was found, or else the node, if it is free.
+fn found_or(found: Option<u32>, chains: &Links, nodes: &[Tagged], node: u32) -> Option<u32>
+    requires node { node < length nodes.now }
+    requires node_count { length nodes.now ≡ 32 }
+    requires sector { sector_in nodes.now node < length chains.now.lists }
+    ensures { result ≡ option_or found (find (is_free_node nodes.now chains.now) (node ∷ [])) }
 {
-    let Some(node) = order.front(ORDER) else {
-        unreachable!()
-    };
-    order.unlink(node);
-    order.push_back(ORDER, node);
-    node
+    if found.is_some() || !is_free(nodes, chains, node) {
+        found
+    } else {
+        Some(node)
+    }
 }
 
 /// The first free read of the order, which is afterwards as before.
@@ -59,9 +53,7 @@ fn first_free(order: &mut Links, chains: &Links, nodes: &[Tagged], waiting: u32)
     let mut found = None;
     for _ in 0..waiting {
         let node = turn(order);
-        if found.is_none() && is_free(nodes, chains, node) {
-            found = Some(node);
-        }
+        found = found_or(found, chains, nodes, node);
     }
     found
 }

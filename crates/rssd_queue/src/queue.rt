@@ -1,14 +1,14 @@
 //! The queue. Commands stand in 32 nodes. One list of nodes has the order in which they were accepted, and one for each sector,
 //! its chain, the order of that sector's commands. Only `new` takes memory.
-ghost use Rattle.std.specs.Prelude.{◌≡◌, ◌≤◌, ◌<◌, ◌+◌, ◌∷◌, ◌++◌, ℕ, [], true, false, length, replicate, IfOk, IfSome, IfNone, IfErr, OnErr, OnOk, MatchOption};
-ghost use Rattle.block_links.specs.Lists.{times};
+ghost use Rattle.std.specs.Prelude.{◌≡◌, ◌≤◌, ◌<◌, ◌+◌, ◌∷◌, ◌++◌, ℕ, [], true, false, length, if◌then◌else◌, IfOk, IfSome, IfNone, IfErr, OnErr, OnOk};
 ghost use Rattle.rssd_queue.specs.Asks.{sector_of, is_long};
 ghost use Rattle.rssd_queue.specs.Waiting.{Accepts, Refuses, IsAsked, empty, no_command as nothing, waits, accepted};
 ghost use Rattle.rssd_queue.specs.Pick.{Takes};
-ghost use Rattle.rssd_queue.specs.Kept.{HasNodes, commands_in, order_in, unused_in};
+ghost use Rattle.rssd_queue.specs.Kept.{HasNodes, commands_in, order_in};
 
 use crate::ask::{Ask, Tagged};
-use crate::pick::{ORDER, UNUSED, pick};
+use crate::order::{UNUSED, is_oldest, is_waiting, release, take_unused};
+use crate::pick::pick;
 use block_links::Links;
 use std::alloc::{AllocError, Global};
 use std::marker::Model;
@@ -98,6 +98,25 @@ fn unused_order(alloc: Global) -> Result<Links, OutOfMemory>
     Ok(order)
 }
 
+/// The command as it waits.
+fn filled(command: Tagged, sector_bytes: u32) -> Tagged
+    requires fits { is_long sector_bytes command.ask ≡ false }
+    requires few_bytes { sector_bytes ≤ 512 }
+    ensures { result ≡ accepted sector_bytes command }
+{
+    let Tagged { tag, mut ask } = command;
+    ask.fill_up(sector_bytes);
+    Tagged { tag, ask }
+}
+
+/// How often the oldest was passed after a serve.
+fn passed_once_more(passed: u32, is_oldest: bool) -> u32
+    requires { passed ≤ 32 }
+    ensures { result ≡ (if is_oldest then 0 else passed + 1) }
+{
+    if is_oldest { 0 } else { passed + 1 }
+}
+
 /// Whether a command with this tag waits.
 fn tag_waits(order: &Links, nodes: &[Tagged], tag: u32) -> bool
     requires nodes { HasNodes order.now }
@@ -105,7 +124,7 @@ fn tag_waits(order: &Links, nodes: &[Tagged], tag: u32) -> bool
     ensures { result ≡ waits (commands_in nodes.now (order_in order.now)) tag }
 {
     for node in 0..NODES {
-        if order.bucket_of(node) == Some(ORDER) && nodes[node as usize].tag == tag {
+        if is_waiting(order, node) && nodes[node as usize].tag == tag {
             return true;
         }
     }
@@ -162,15 +181,10 @@ impl Queue {
         requires fits { is_long self.old.sector_bytes command.ask ≡ false }
         ensures { self.new ≡ record self.old { commands = self.old.commands ++ accepted self.old.sector_bytes command ∷ [] } }
     {
-        let Some(node) = self.order.front(UNUSED) else {
-            unreachable!()
-        };
-        let Tagged { tag, mut ask } = command;
-        ask.fill_up(self.sector_bytes);
-        self.order.unlink(node);
-        self.order.push_back(ORDER, node);
-        self.chains.push_back(ask.sector(), node);
-        self.nodes[node as usize] = Tagged { tag, ask };
+        let command = filled(command, self.sector_bytes);
+        let node = take_unused(&mut self.order);
+        self.chains.push_back(command.ask.sector(), node);
+        self.nodes[node as usize] = command;
         self.waiting += 1;
     }
 
@@ -199,13 +213,11 @@ impl Queue {
         ensures same { IfNone result (self.new ≡ self.old) }
         ensures taken { IfSome result (λ command. Takes self.old command self.new) }
         ensures asked { IfSome result (λ command. IsAsked self.old.sectors self.old.sector_bytes command.ask) }
-        ensures few_passed { self.new.passed ≤ 32 }
+        ensures few_bytes { self.old.sector_bytes ≤ 512 }
     {
         let node = pick(&mut self.order, &self.chains, &self.nodes, self.waiting, self.passed)?;
-        let is_oldest = self.order.front(ORDER) == Some(node);
-        self.passed = if is_oldest { 0 } else { self.passed + 1 };
-        self.order.unlink(node);
-        self.order.push_back(UNUSED, node);
+        self.passed = passed_once_more(self.passed, is_oldest(&self.order, node));
+        release(&mut self.order, node);
         self.chains.unlink(node);
         self.waiting -= 1;
         Some(mem::replace(&mut self.nodes[node as usize], no_command()))
