@@ -129,8 +129,8 @@ module _ (nodes : List Tagged) (order chains : Lists) (waiting passed sectors by
           few_passed = let f = few_passed_after (commands_in nodes ws) passed picked.place picked.pick kept.few_passed in omega arith;
           few_bytes = kept.few_bytes;
           asked = λ m some.
-            let some' : 0 < times m (without n ws) = subst (λ xs. 0 < times m xs) left some in
-            subst (λ c. IsAsked sectors bytes c.ask) (sym (left_stay m some')) (kept.asked m (left_waits m some'));
+              let some' : 0 < times m (without n ws) = subst (λ xs. 0 < times m xs) left some in
+              subst (λ c. IsAsked sectors bytes c.ask) (sym (left_stay m some')) (kept.asked m (left_waits m some'));
         }
 
   -- ---- a command is put in an unused node

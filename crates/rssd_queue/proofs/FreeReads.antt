@@ -111,8 +111,8 @@ module _ (nodes : List Tagged) (ws : List ℕ) (chains : Lists) (sectors : ℕ) 
         within = rw length-map within;
         read = ap (λ c. is_read c.ask) (command_is k within) ∙ parts.0;
         first_of_sector = λ j below same.
-          let none = kept_first (λ m. eqb (sector_in nodes m) s) ws k n within refl (once n) first j below in
-          false≢true (sym none ∙ eq-eqb (sector_in nodes (get_or ws j 0)) s (sym (sector_is j (omega arith)) ∙ same ∙ sector_is k within));
+            let none = kept_first (λ m. eqb (sector_in nodes m) s) ws k n within refl (once n) first j below in
+            false≢true (sym none ∙ eq-eqb (sector_in nodes (get_or ws j 0)) s (sym (sector_is j (omega arith)) ∙ same ∙ sector_is k within));
       }
 
   -- and a free read stands in a free node
@@ -122,7 +122,7 @@ module _ (nodes : List Tagged) (ws : List ℕ) (chains : Lists) (sectors : ℕ) 
       let n : ℕ = get_or ws k 0 in
       let s : ℕ = sector_in nodes n in
       let first = first_kept (λ m. eqb (sector_in nodes m) s) ws k within (eq-eqb s s refl)
-        (λ j below. ne_eqb (sector_in nodes (get_or ws j 0)) s (λ same. is.first_of_sector j below (sector_is j (omega arith) ∙ same ∙ sym (sector_is k within)))) in
+      (λ j below. ne_eqb (sector_in nodes (get_or ws j 0)) s (λ same. is.first_of_sector j below (sector_is j (omega arith) ∙ same ∙ sym (sector_is k within)))) in
       both-true (is_read (in_node nodes n).ask) (eqb (get_or (list_at chains.lists s) 0 32) n)
       (ap (λ c. is_read c.ask) (sym (command_is k within)) ∙ is.read)
       (eq-eqb (get_or (list_at chains.lists s) 0 32) n (ap (λ xs. get_or xs 0 32) (has.parts s) ∙ first))

@@ -44,12 +44,14 @@ few_after old k (inr oldest) = rw (eq-eqb k 0 oldest.0) (omega arith)
 -- a later command is served: the place stays, and the oldest was passed once more
 stands_above : (old new : Waiting) (c d : Tagged) (p : ℕ) (t : Takes old c new) → p < t.place → Stands old d p → Stands new d p × (new.passed ≡ old.passed + 1)
 stands_above old new c d p t above stands =
-    subst (λ q. Stands q d p × (q.passed ≡ old.passed + 1)) (sym t.rest)
-    (record {
-      within = omega (arith, length-remove old.commands t.place t.within, t.within);
-      is = get_or-remove_below old.commands t.place no_command p above t.within ∙ stands.is;
-      few_passed = few_after old t.place t.pick;
-    }, rw (ne_eqb t.place 0 (λ z. absurd (omega arith))) refl)
+    subst (λ q. Stands q d p × (q.passed ≡ old.passed + 1)) (sym t.rest) (
+      record {
+        within = omega (arith, length-remove old.commands t.place t.within, t.within);
+        is = get_or-remove_below old.commands t.place no_command p above t.within ∙ stands.is;
+        few_passed = few_after old t.place t.pick;
+      },
+      rw (ne_eqb t.place 0 (λ z. absurd (omega arith))) refl,
+    )
 
 -- an earlier command is served: the place falls
 stands_below : (old new : Waiting) (c d : Tagged) (q : ℕ) (t : Takes old c new) → t.place ≤ q → Stands old d (q + 1) → Stands new d q

@@ -114,7 +114,7 @@ module _ (size : ℕ) (read : Tagged) (bytes : List ℕ) (rest : List Event) whe
       record {
         later = about s left ++ about s (accepted_in size rest);
         order = about-append s first.queue.commands (accepted_in size rest)
-        ∙ ap (λ xs. xs ++ about s (accepted_in size rest)) (about-taken s first.queue next.queue read t ∙ here);
+            ∙ ap (λ xs. xs ++ about s (accepted_in size rest)) (about-taken s first.queue next.queue read t ∙ here);
         row = bytes_are first.rows read.ask bytes a.answer_is;
       }
   found (Put c ∷ es) first last is (next, (a, rows), run) none =
@@ -139,9 +139,9 @@ module _ (size : ℕ) (read : Tagged) (bytes : List ℕ) (rest : List Event) whe
       record {
         later = found'.later;
         order = about-append s first.queue.commands all
-        ∙ ap (λ xs. xs ++ about s all) (about-taken s first.queue next.queue c t)
-        ∙ sym (about-append s (c ∷ left) all)
-        ∙ about-cons s c (left ++ all) (served_in es) (read ∷ found'.later) rest';
+            ∙ ap (λ xs. xs ++ about s all) (about-taken s first.queue next.queue c t)
+            ∙ sym (about-append s (c ∷ left) all)
+            ∙ about-cons s c (left ++ all) (served_in es) (read ∷ found'.later) rest';
         row = found'.row ∙ ap (λ r. row_of (carried_out size r (served_in es)) s) rows';
       }
 
@@ -160,6 +160,6 @@ reads_in_order first last es rest read bytes new run none =
       all = cut.parts;
       same_before = cut.kept;
       row = found'.row ∙ row-about size s (served_in es) first.rows
-      ∙ ap (λ cs. row_of (carried_out size first.rows cs) s) (sym cut.kept)
-      ∙ sym (row-about size s cut.earlier first.rows);
+          ∙ ap (λ cs. row_of (carried_out size first.rows cs) s) (sym cut.kept)
+          ∙ sym (row-about size s cut.earlier first.rows);
     }

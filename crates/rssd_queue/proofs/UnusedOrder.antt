@@ -44,11 +44,13 @@ next_unused o p n unused is =
 
 pub all_unused : (o : Lists) → IsUnusedBelow o 32 → HasNodes o × (order_in o ≡ [])
 all_unused o unused =
-    let none : order_in o ≡ [] = ap (λ ls. list_at ls 0) unused.two_lists in
-    (record {
-      nodes = unused.nodes;
-      two_lists = unused.two_lists ∙ ap (λ xs. xs ∷ unused_in o ∷ []) (sym none);
-      once = λ m. let t = ap (times m) none in let u = unused.once m in omega arith;
-      below = λ m some. unused.below m (let t = ap (times m) none in omega arith);
-      all = let l = ap length none in let u = unused.count in omega arith;
-    }, none)
+    let none : order_in o ≡ [] = ap (λ ls. list_at ls 0) unused.two_lists in (
+      record {
+        nodes = unused.nodes;
+        two_lists = unused.two_lists ∙ ap (λ xs. xs ∷ unused_in o ∷ []) (sym none);
+        once = λ m. let t = ap (times m) none in let u = unused.once m in omega arith;
+        below = λ m some. unused.below m (let t = ap (times m) none in omega arith);
+        all = let l = ap length none in let u = unused.count in omega arith;
+      },
+      none,
+    )

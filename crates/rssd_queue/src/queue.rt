@@ -1,6 +1,6 @@
 //! The queue. Commands stand in 32 nodes. One list of nodes has the order in which they were accepted, and one for each sector,
 //! its chain, the order of that sector's commands. Only `new` takes memory.
-ghost use Rattle.std.specs.Prelude.{◌≡◌, ◌≤◌, ◌<◌, ◌+◌, ◌∷◌, ◌++◌, ℕ, [], true, false, length, if◌then◌else◌, IfOk, IfSome, IfNone, IfErr, OnErr, OnOk};
+ghost use Rattle.std.specs.Prelude.{◌≡◌, ◌==◌, ◌≤◌, ◌<◌, ◌+◌, ◌∷◌, ◌++◌, ℕ, [], true, false, length, if◌then◌else◌, IfOk, IfSome, IfNone, IfErr, OnErr, OnOk};
 ghost use Rattle.rssd_queue.specs.Asks.{sector_of, is_long};
 ghost use Rattle.rssd_queue.specs.Waiting.{Accepts, Refuses, IsAsked, empty, no_command as nothing, waits, accepted};
 ghost use Rattle.rssd_queue.specs.Pick.{Takes};
@@ -153,6 +153,13 @@ impl Queue {
         })
     }
 
+    /// Whether as many commands wait as may.
+    pub fn is_full(&self) -> bool
+        ensures { result ≡ (length self.now.commands == 32) }
+    {
+        self.waiting == NODES
+    }
+
     /// Why a command would not be accepted now, if it would not.
     fn refusal(&self, command: &Tagged) -> Option<PutRefusal>
         ensures room { IfNone result (length self.now.commands < 32) }
@@ -161,7 +168,7 @@ impl Queue {
         ensures fits { IfNone result (is_long self.now.sector_bytes command.now.ask ≡ false) }
         ensures refused { IfSome result (Refuses self.now command.now) }
     {
-        if self.waiting == NODES {
+        if self.is_full() {
             Some(PutRefusal::Full)
         } else if tag_waits(&self.order, &self.nodes, command.tag) {
             Some(PutRefusal::TagBusy)
@@ -215,7 +222,13 @@ impl Queue {
         ensures asked { IfSome result (λ command. IsAsked self.old.sectors self.old.sector_bytes command.ask) }
         ensures few_bytes { self.old.sector_bytes ≤ 512 }
     {
-        let node = pick(&mut self.order, &self.chains, &self.nodes, self.waiting, self.passed)?;
+        let node = pick(
+            &mut self.order,
+            &self.chains,
+            &self.nodes,
+            self.waiting,
+            self.passed,
+        )?;
         self.passed = passed_once_more(self.passed, is_oldest(&self.order, node));
         release(&mut self.order, node);
         self.chains.unlink(node);

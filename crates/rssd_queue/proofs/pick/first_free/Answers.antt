@@ -35,6 +35,6 @@ loop-preserved c =
       nodes = c.turn-node.ensures.nodes;
       order = turned_more c.args.order.now c.loop.order c.turn-node.new.order k c.turn-node.result within c.loop.invariant.order c.turn-node.ensures.front c.turn-node.ensures.turned;
       found = c.found_or-found.ensures ∙ ap (λ f. option_or f (find free (c.turn-node.result ∷ []))) c.loop.invariant.found
-      ∙ ap (λ n. option_or (find free (take k ws)) (find free (n ∷ []))) (sym node)
-      ∙ sym (find-append free (take k ws) (get_or ws k 0 ∷ [])) ∙ ap (find free) (sym (take_more ws k 0 within));
+          ∙ ap (λ n. option_or (find free (take k ws)) (find free (n ∷ []))) (sym node)
+          ∙ sym (find-append free (take k ws) (get_or ws k 0 ∷ [])) ∙ ap (find free) (sym (take_more ws k 0 within));
     }

@@ -15,7 +15,7 @@ push_back-requires-clause-free c =
     let base = rw (← c.self.view_is) at c.requires.in_range in
     let fits = rw (← c.self.view_is) at c.requires.fits in
     let in_range : sector_of command.ask < c.self.inside.sectors =
-        subst (λ (d : Tagged). sector_of d.ask < c.self.inside.sectors) (sym c.filled-command.ensures) (subst (λ (s : ℕ). s < c.self.inside.sectors) (sym (sector-filled size c.args.command.ask)) base) in
+    subst (λ (d : Tagged). sector_of d.ask < c.self.inside.sectors) (sym c.filled-command.ensures) (subst (λ (s : ℕ). s < c.self.inside.sectors) (sym (sector-filled size c.args.command.ask)) base) in
     let whole : IsWhole size command.ask = subst (λ (d : Tagged). IsWhole size d.ask) (sym c.filled-command.ensures) (filled_whole size c.args.command.ask fits) in
     put_free _ _ _ _ _ _ _ c.self.invariant c.take_unused-node.result command c.take_unused-node.ensures.unused in_range whole
 
@@ -26,7 +26,7 @@ invariant_of-self c =
     let base = rw (← c.self.view_is) at c.requires.in_range in
     let fits = rw (← c.self.view_is) at c.requires.fits in
     let in_range : sector_of command.ask < c.self.inside.sectors =
-        subst (λ (d : Tagged). sector_of d.ask < c.self.inside.sectors) (sym c.filled-command.ensures) (subst (λ (s : ℕ). s < c.self.inside.sectors) (sym (sector-filled size c.args.command.ask)) base) in
+    subst (λ (d : Tagged). sector_of d.ask < c.self.inside.sectors) (sym c.filled-command.ensures) (subst (λ (s : ℕ). s < c.self.inside.sectors) (sym (sector-filled size c.args.command.ask)) base) in
     let whole : IsWhole size command.ask = subst (λ (d : Tagged). IsWhole size d.ask) (sym c.filled-command.ensures) (filled_whole size c.args.command.ask fits) in
     kept_put _ _ _ _ _ _ _ c.self.invariant c.take_unused-node.result command c.take_unused-node.ensures.unused in_range whole
     c.take_unused-node.new.order c.push_back.new.self (c.self.inside.waiting + 1) c.take_unused-node.ensures.taken c.take_unused-node.ensures.nodes
@@ -41,7 +41,7 @@ returns c =
     let base = rw (← c.self.view_is) at c.requires.in_range in
     let fits = rw (← c.self.view_is) at c.requires.fits in
     let in_range : sector_of command.ask < c.self.inside.sectors =
-        subst (λ (d : Tagged). sector_of d.ask < c.self.inside.sectors) (sym c.filled-command.ensures) (subst (λ (s : ℕ). s < c.self.inside.sectors) (sym (sector-filled size c.args.command.ask)) base) in
+    subst (λ (d : Tagged). sector_of d.ask < c.self.inside.sectors) (sym c.filled-command.ensures) (subst (λ (s : ℕ). s < c.self.inside.sectors) (sym (sector-filled size c.args.command.ask)) base) in
     let whole : IsWhole size command.ask = subst (λ (d : Tagged). IsWhole size d.ask) (sym c.filled-command.ensures) (filled_whole size c.args.command.ask fits) in
     let commands = ap (λ (o : Lists). commands_in (set nodes c.take_unused-node.result command) (order_in o)) c.take_unused-node.ensures.taken
     ∙ commands_more _ _ _ _ _ _ _ c.self.invariant c.take_unused-node.result command c.take_unused-node.ensures.unused in_range whole

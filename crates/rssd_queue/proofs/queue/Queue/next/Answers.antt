@@ -36,7 +36,7 @@ invariant_of-self-2 c =
     let released = rw c.in_ok-node.ensures.order at c.release.ensures.released in
     rw (c.replace.ensures.after, c.no_command.ensures)
     (kept_taken _ _ _ _ _ _ _ c.self.invariant c.in_ok-node.node picked c.release.new.order c.unlink.new.self (c.self.inside.waiting - 1) c.passed_once_more-self-inside.result
-      released c.release.ensures.nodes c.unlink.ensures.lists (λ i. c.self.inside.waiting - 1) passed_is)
+    released c.release.ensures.nodes c.unlink.ensures.lists (λ i. c.self.inside.waiting - 1) passed_is)
 
 pub returns-clause-taken : goal.returns-clause-taken
 returns-clause-taken c =
