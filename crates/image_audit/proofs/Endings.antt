@@ -60,8 +60,8 @@ ending_from_valid cells long bytes below =
     let word_long : length word ≡ 14 = v.long in
     let cell_bytes : are_bytes cells ≡ true = bytes_from_each cells bytes in
     let fewer : zero_bits (take 12 word) ≤ zero_bits (take 12 cells) =
-        (zeros_below (take 12 word) (take 12 cells) (length-take-le 12 word (omega arith) ∙ sym (length-take-le 12 cells (omega arith))) (take_bytes 12 word v.bytes) (take_bytes 12 cells cell_bytes)
-        (above_bits (take 12 word) (take 12 cells) (above_take 12 word cells below.2))).0 in
+    (zeros_below (take 12 word) (take 12 cells) (length-take-le 12 word (omega arith) ∙ sym (length-take-le 12 cells (omega arith))) (take_bytes 12 word v.bytes) (take_bytes 12 cells cell_bytes)
+    (above_bits (take 12 word) (take 12 cells) (above_take 12 word cells below.2))).0 in
     let few : ones (slice_index word 12) ≤ 8 = ones-le 8 (slice_index word 12) (byte_small 12 word v.bytes) in
     let all : zero_bits (take 12 cells) + sum_by count_ones (take 12 cells) ≡ 8 * length (take 12 cells) = all_bits (take 12 cells) (take_bytes 12 cells cell_bytes) in
     let twelve : length (take 12 cells) ≡ 12 = length-take-le 12 cells (omega arith) in

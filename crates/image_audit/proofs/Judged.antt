@@ -1,9 +1,10 @@
 -- What marks say is the verdict on the cells, and sound cells have no other verdict.
-use Rattle.std.proofs.Common.{◌≡◌, ◌⊎◌, inl, inr, ℕ, ◌+◌, ◌*◌, ◌^◌, ◌<◌, ◌≤◌, List, [], ◌∷◌, ◌++◌, map, length, slice_index, Option, Some, None, refl, sym, ap, ◌∙◌, subst, arith}
+use Rattle.std.proofs.Common.{◌≡◌, ◌⊎◌, inl, inr, ℕ, ◌+◌, ◌*◌, ◌^◌, ◌<◌, ◌≤◌, List, [], ◌∷◌, ◌++◌, map, true, length, slice_index, Option, Some, None, refl, sym, ap, ◌∙◌, subst, arith}
 use Rattle.std.specs.Prelude.{◌↔◌}
 use Rattle.std.specs.List.{All, filter_map}
 use Rattle.std.specs.Fork.{slice_chunk}
 use Rattle.std.proofs.lemmas.Bool.{cases_lt}
+use Rattle.std.proofs.lemmas.List.Elements.{All-weaker}
 use Rattle.std.proofs.lemmas.List.FromFn.{length-map-range_with_len}
 use Rattle.zero_count.specs.declared.Header.{Header}
 use Rattle.spare_gate.specs.Slots.{word_at}
@@ -13,19 +14,23 @@ use Rattle.cell_die.specs.Cells.{page_at}
 use Rattle.mem_die.specs.PageLaws.{page_at-pages, chunk_whole}
 use Rattle.page_codec.specs.declared.place.Place.{Place}
 use Rattle.page_codec.specs.Geometry.{Geometry, HasShape, page_count, shape_of, spare_at}
-use Rattle.page_codec.specs.Records.{Placed, places, header_in}
+use Rattle.page_codec.specs.Records.{Placed, places, header_in, may_hold}
 use Rattle.page_codec.specs.Sound.{IsSound, HeadersBelow, SeqsDiffer, SeqsBelow}
 use Rattle.page_codec.proofs.Newest.{Member, kept_member}
 use Rattle.page_codec.proofs.Within.{header_within}
+use Rattle.page_codec.proofs.Live.{holds_within}
 use Rattle.image_audit.specs.declared.mark.Mark.{Mark}
 use Rattle.image_audit.specs.declared.verdict.Verdict.{Verdict}
 use Rattle.image_audit.specs.declared.verdict.Verdict.TheVariants.{Sound, Header as BadHeader, SameSeq, NoSpare, Number}
+use Rattle.striped.specs.Meaning.{Decoding}
+use Rattle.image_audit.specs.Audits.{IsAudit}
+use Rattle.image_audit.specs.Held.{held, array_told}
 use Rattle.image_audit.specs.Images.{HasLength, pages_in, whole_bytes}
-use Rattle.image_audit.specs.Marks.{marks_in, placed_of, first_repeat, first_high, AreLive}
+use Rattle.image_audit.specs.Marks.{marks_in, placed_of, newest_of, first_repeat, first_high, AreLive}
 use Rattle.image_audit.specs.Reading.{LiesBelow, ReadTo}
-use Rattle.image_audit.specs.Said.{MarksSay, SomeUntaken, AllTaken, HighAt}
+use Rattle.image_audit.specs.Said.{MarksSay, SomeUntaken, HighAt, IsWhole, told_by}
 use Rattle.image_audit.specs.Verdicts.{IsFirst, IsFirstRepeat, RepeatsAt, IsHighAt, SomeBlockFree, EveryBlockLive, LiesBelowNone, SameSeqAs, at_place, placed_in, headers, IsVerdict}
-use Rattle.image_audit.proofs.LiveCells.{taken_counts, untaken_counts}
+use Rattle.image_audit.proofs.LiveCells.{IsLiveMark, live_marks, taken_counts, untaken_counts, told_held, told_stored}
 use Rattle.image_audit.proofs.Marked.{marks_are_headers}
 use Rattle.image_audit.proofs.Ordered.{listed_within, headers_apart, header_listed}
 use Rattle.image_audit.proofs.Repeats.{all_member, none_repeated, repeat_found, FoundRepeat, high_found, none_high}
@@ -144,3 +149,39 @@ only_sound g cells (Number page slot) verdict sound =
 -- so the verdict is that they are sound exactly where they are
 pub sound_exactly : (g : Geometry) (cells : List (List ℕ)) (v : Verdict) → IsVerdict g cells v → (v ≡ Sound) ↔ IsSound g cells
 sound_exactly g cells v verdict = (λ e. subst (IsVerdict g cells) e verdict, only_sound g cells v verdict)
+
+-- ---- what is told
+
+pub unsound_audit : (g : Geometry) (d : Decoding) (cells : List (List ℕ)) (v : Verdict) → IsVerdict g cells v → (v ≡ Sound → ⊥) → IsAudit g d cells v []
+unsound_audit g d cells v verdict other = record {
+  verdict = verdict;
+  sound = sound_exactly g cells v verdict;
+  tells = λ e. absurd (other e);
+  array = λ e. absurd (other e);
+  nothing = λ apart. refl;
+}
+
+pub sound_audit : (g : Geometry) (d : Decoding) (cells : List (List ℕ)) (marks live : List Mark) (told : List (ℕ × List ℕ)) → HasShape (shape_of g) cells → ReadTo g cells (places g) marks → AreLive marks live
+    → MarksSay g marks live Sound → told ≡ map (told_by g d cells) live → All (IsWhole g d cells) live → IsAudit g d cells Sound told
+sound_audit g d cells marks live told shape read are says tells whole =
+    let verdict : IsSound g cells = verdict_is g cells marks live shape read are Sound says in
+    let listed_live : AreLive (marks_in g cells (places g)) live = subst (λ (ms : List Mark). AreLive ms live) read.marked are in
+    let is_held : told ≡ held g d cells = tells ∙ told_held g d cells live listed_live in
+    record {
+      verdict = verdict;
+      sound = sound_exactly g cells Sound verdict;
+      tells = λ e. is_held;
+      array = λ e. ap (array_told g) is_held ∙ told_stored g d cells live listed_live whole;
+      nothing = λ apart. absurd (apart refl);
+    }
+
+-- ---- where live records stand
+
+pub live_holds : (g : Geometry) (cells : List (List ℕ)) (marks live : List Mark) → ReadTo g cells (places g) marks → AreLive marks live → All (λ mark. may_hold g mark.place ≡ true) live
+live_holds g cells marks live read are =
+    All-weaker (IsLiveMark g cells) (λ mark. may_hold g mark.place ≡ true) (λ mark l. l.holds) live
+    (live_marks g cells live (subst (λ (ms : List Mark). All (λ mark. newest_of ms mark.header.sector ≡ Some (placed_of mark)) live) read.marked are.newest))
+
+pub live_pages : (g : Geometry) (cells : List (List ℕ)) (marks live : List Mark) → 1 ≤ g.generations → ReadTo g cells (places g) marks → AreLive marks live → All (λ mark. mark.place.page < page_count g) live
+live_pages g cells marks live some read are =
+    All-weaker (λ mark. may_hold g mark.place ≡ true) (λ mark. mark.place.page < page_count g) (λ mark h. (holds_within g mark.place some h).0) live (live_holds g cells marks live read are)

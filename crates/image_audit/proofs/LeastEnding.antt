@@ -67,14 +67,18 @@ great_above byte least h = ap (λ (t : Bool). if t then bit_or byte least else b
 
 pub ending_from_least : (cells : List ℕ) → max (slice_index cells 12) 1 ≤ 4
     → least_above (slice_index cells 13) (8 - ones (max (slice_index cells 12) 1)) + ones (max (slice_index cells 12) 1) + ones_before_kind cells ≤ 104 → HasEnding cells
-ending_from_least cells few room = (kind, last, record {
-  least_kind = omega arith;
-  greatest_kind = few;
-  kind_above = above_byte kind (slice_index cells 12) (λ i h. kind_bits (slice_index cells 12) i);
-  last_above = above_byte last (slice_index cells 13) (λ i h. (last_is (cases_lt (slice_index cells 13) least)).0 i);
-  least_last = (last_is (cases_lt (slice_index cells 13) least)).1;
-  greatest_last = room;
-})
+ending_from_least cells few room = (
+  kind,
+  last,
+  record {
+    least_kind = omega arith;
+    greatest_kind = few;
+    kind_above = above_byte kind (slice_index cells 12) (λ i h. kind_bits (slice_index cells 12) i);
+    last_above = above_byte last (slice_index cells 13) (λ i h. (last_is (cases_lt (slice_index cells 13) least)).0 i);
+    least_last = (last_is (cases_lt (slice_index cells 13) least)).1;
+    greatest_last = room;
+  },
+)
   where
     kind : ℕ
     kind = max (slice_index cells 12) 1

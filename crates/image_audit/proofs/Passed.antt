@@ -8,7 +8,7 @@ use Rattle.page_codec.specs.declared.place.Place.{Place}
 use Rattle.image_audit.specs.declared.mark.Mark.{Mark}
 use Rattle.image_audit.specs.Marks.{with_seq, repeat_or, first_repeat, first_high}
 
-abbrev place_with : ℕ → List Mark → Option Place
+abbrev pub place_with : ℕ → List Mark → Option Place
 place_with seq marks = option_map (λ mark. mark.place) (with_seq seq marks)
 
 -- the place of the first later one of each seq

@@ -47,11 +47,11 @@ slots_split g page slot h k =
     let back : List Place = flat_map f (range_with_len (page + 1) (page_count g - page - 1)) in
     let rest : List Place = map (at_place page) (range_with_len (slot + 1) (g.generations - slot - 1)) in
     let page_is : f page ≡ page_slots page slot ++ at_place page slot ∷ rest =
-        ap (map (at_place page)) (range_split g.generations slot k) ∙ map-append (at_place page) (range_with_len 0 slot) (slot ∷ range_with_len (slot + 1) (g.generations - slot - 1)) in (
+    ap (map (at_place page)) (range_split g.generations slot k) ∙ map-append (at_place page) (range_with_len 0 slot) (slot ∷ range_with_len (slot + 1) (g.generations - slot - 1)) in (
       rest ++ back,
       ap (flat_map f) (range_split (page_count g) page h)
-      ∙ (flat_map-append f (range_with_len 0 page) (page ∷ range_with_len (page + 1) (page_count g - page - 1))
-      ∙ (ap (λ (xs : List Place). front ++ (xs ++ back)) page_is
-      ∙ (ap (λ (xs : List Place). front ++ xs) (append_assoc (page_slots page slot) (at_place page slot ∷ rest) back)
-      ∙ sym (append_assoc front (page_slots page slot) (at_place page slot ∷ rest ++ back))))),
+          ∙ (flat_map-append f (range_with_len 0 page) (page ∷ range_with_len (page + 1) (page_count g - page - 1))
+          ∙ (ap (λ (xs : List Place). front ++ (xs ++ back)) page_is
+          ∙ (ap (λ (xs : List Place). front ++ xs) (append_assoc (page_slots page slot) (at_place page slot ∷ rest) back)
+          ∙ sym (append_assoc front (page_slots page slot) (at_place page slot ∷ rest ++ back))))),
     )

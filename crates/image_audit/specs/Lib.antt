@@ -1,3 +1,4 @@
+pub mod Audits
 pub mod HeaderCells
 pub mod Held
 pub mod Images

@@ -88,8 +88,7 @@ impl Geometry {
         ensures { result ≡ holds_at self.now place.now }
     {
         let number = place.page % self.pages;
-        place.slot == 0
-            || number % self.span == 0 && number / self.span < self.pages / self.span
+        place.slot == 0 || number % self.span == 0 && number / self.span < self.pages / self.span
     }
 
     /// Whether the block of a page is sealed.

@@ -4,7 +4,7 @@ ghost use Rattle.std.specs.List.{All};
 ghost use Rattle.page_codec.specs.Geometry.{unit_at, page_count};
 ghost use Rattle.page_codec.specs.Records.{may_hold};
 ghost use Rattle.page_codec.specs.Sectors.{said_by};
-ghost use Rattle.image_audit.specs.Images.{pages_in, HasLength, IsServed};
+ghost use Rattle.image_audit.specs.Images.{pages_in, HasLength, IsFitting, IsServed};
 ghost use Rattle.image_audit.specs.Marks.{placed_of};
 ghost use Rattle.image_audit.specs.Said.{told_of, told_by, IsWhole};
 
@@ -42,6 +42,7 @@ fn read_row<C: Scheme>(
 )
     requires long { HasLength geometry.now cells.now }
     requires sizes { IsServed geometry.now (C.meaning scheme.now) }
+    requires fitting { IsFitting geometry.now }
     requires place { may_hold geometry.now mark.now.place ≡ true }
     requires unit { length unit.old ≡ geometry.now.span * geometry.now.main_bytes }
     requires row { length row.old ≡ geometry.now.sector_bytes }
@@ -71,7 +72,7 @@ fn hold_one<C: Scheme>(
     requires place { may_hold geometry.now mark.now.place ≡ true }
     requires unit { length unit.old ≡ geometry.now.span * geometry.now.main_bytes }
     requires row { length row.old ≡ geometry.now.sector_bytes }
-    requires few_bytes { geometry.now.sector_bytes ≤ 512 }
+    requires fitting { IsFitting geometry.now }
     ensures told { told_of result ≡ told_by geometry.now (C.meaning scheme.now).decoding (pages_in geometry.now cells.now) mark.now }
     ensures whole { IsWhole geometry.now (C.meaning scheme.now).decoding (pages_in geometry.now cells.now) mark.now }
 {
@@ -93,7 +94,7 @@ pub(crate) fn hold<C: Scheme>(
     requires long { HasLength geometry.now cells.now }
     requires sizes { IsServed geometry.now (C.meaning scheme.now) }
     requires live { All (λ mark. may_hold geometry.now mark.place ≡ true) live.now }
-    requires few_bytes { geometry.now.sector_bytes ≤ 512 }
+    requires fitting { IsFitting geometry.now }
     ensures told { IfOk result (λ held. map told_of held.items ≡ map (told_by geometry.now (C.meaning scheme.now).decoding (pages_in geometry.now cells.now)) live.now) }
     ensures whole { OnOk result (All (IsWhole geometry.now (C.meaning scheme.now).decoding (pages_in geometry.now cells.now)) live.now) }
 {

@@ -1,13 +1,12 @@
 //! The audit: all headers are read in one pass, and then each part of soundness is judged in its order.
-ghost use Rattle.std.specs.Prelude.{◌≡◌, ◌≢◌, ◌<◌, ◌↔◌, [], map, IfOk};
+ghost use Rattle.std.specs.Prelude.{◌<◌, map, IfOk};
 ghost use Rattle.std.specs.List.{All};
 ghost use Rattle.page_codec.specs.Geometry.{page_count};
-ghost use Rattle.page_codec.specs.Sectors.{stored};
-ghost use Rattle.page_codec.specs.Sound.{IsSound};
-ghost use Rattle.image_audit.specs.Held.{held, array_told};
-ghost use Rattle.image_audit.specs.Images.{geometry_of, pages_in, AreOf, IsServed};
+ghost use Rattle.page_codec.specs.Records.{places};
+ghost use Rattle.image_audit.specs.Audits.{IsAudit};
+ghost use Rattle.image_audit.specs.Images.{geometry_of, pages_in, AreOf, HasLength, IsFitting, IsServed};
+ghost use Rattle.image_audit.specs.Reading.{ReadTo};
 ghost use Rattle.image_audit.specs.Said.{MarksSay, told_of};
-ghost use Rattle.image_audit.specs.Verdicts.{IsVerdict};
 
 use crate::OutOfMemory;
 use crate::blocks::all_have_live;
@@ -20,6 +19,7 @@ use crate::repeat::first_repeat;
 use crate::row::Held;
 use crate::verdict::Verdict;
 use die_image::ImageHead;
+use page_codec::Place;
 use std::alloc::{AllocError, Global};
 use striped::Scheme;
 
@@ -53,6 +53,27 @@ fn judge(
     Ok(Verdict::Sound)
 }
 
+/// The audit by the marks of all valid headers.
+fn audit_marks<C: Scheme>(
+    alloc: Global,
+    geometry: &Geometry,
+    cells: &[u8],
+    scheme: &C,
+    marks: &[Mark],
+) -> Result<(Verdict, Vec<Held>), OutOfMemory>
+    requires long { HasLength geometry.now cells.now }
+    requires served { IsServed geometry.now (C.meaning scheme.now) }
+    requires fitting { IsFitting geometry.now }
+    requires read { ReadTo geometry.now (pages_in geometry.now cells.now) (places geometry.now) marks.now }
+    ensures { IfOk result (λ told. IsAudit geometry.now (C.meaning scheme.now).decoding (pages_in geometry.now cells.now) told.0 (map told_of told.1.items)) }
+{
+    let live = live_records(alloc, marks)?;
+    match judge(alloc, geometry, marks, &live)? {
+        Verdict::Sound => Ok((Verdict::Sound, hold(alloc, geometry, cells, scheme, &live)?)),
+        verdict => Ok((verdict, Vec::new(alloc))),
+    }
+}
+
 /// Judges the cells of an image, and tells what they hold where they are sound: each sector that has a live record, in the order
 /// in which the sectors are first found, by page and then by slot. Elsewhere the list is empty.
 pub fn audit<C: Scheme>(
@@ -63,33 +84,15 @@ pub fn audit<C: Scheme>(
 ) -> Result<(Verdict, Vec<Held>), OutOfMemory>
     requires cells { AreOf head.now cells.now }
     requires scheme { IsServed (geometry_of head.now) (C.meaning scheme.now) }
-    // The verdict is the first that applies, with its first place.
-    ensures verdict { IfOk result (λ told. IsVerdict (geometry_of head.now) (pages_in (geometry_of head.now) cells.now) told.0) }
-    ensures sound { IfOk result (λ told. told.0 ≡ Verdict.Sound ↔ IsSound (geometry_of head.now) (pages_in (geometry_of head.now) cells.now)) }
-    // What is told of sound cells: the sectors that have a live record, in the order in which they are first found.
-    ensures held { IfOk result (λ told. told.0 ≡ Verdict.Sound
-        → map told_of told.1.items ≡ held (geometry_of head.now) (C.meaning scheme.now).decoding (pages_in (geometry_of head.now) cells.now)) }
-    ensures nothing { IfOk result (λ told. told.0 ≢ Verdict.Sound → told.1.items ≡ []) }
-    // With zeros for the other sectors these are the sectors that the cells stand for.
-    ensures stored { IfOk result (λ told. told.0 ≡ Verdict.Sound → array_told (geometry_of head.now) (map told_of told.1.items)
-        ≡ stored (geometry_of head.now) (C.meaning scheme.now).decoding (pages_in (geometry_of head.now) cells.now)) }
+    ensures { IfOk result (λ told. IsAudit (geometry_of head.now) (C.meaning scheme.now).decoding (pages_in (geometry_of head.now) cells.now) told.0 (map told_of told.1.items)) }
 {
     let geometry = Geometry::of(head);
-    let marks = match read_marks(alloc, &geometry, cells) {
-        Ok(marks) => marks,
-        Err(Unread::OutOfMemory) => return Err(AllocError),
+    match read_marks(alloc, &geometry, cells) {
+        Ok(marks) => audit_marks(alloc, &geometry, cells, scheme, &marks),
+        Err(Unread::OutOfMemory) => Err(AllocError),
         Err(Unread::Bad(place)) => {
-            let verdict = Verdict::Header {
-                page: place.page,
-                slot: place.slot,
-            };
-            return Ok((verdict, Vec::new(alloc)));
+            let Place { page, slot } = place;
+            Ok((Verdict::Header { page, slot }, Vec::new(alloc)))
         }
-    };
-    let live = live_records(alloc, &marks)?;
-    let verdict = judge(alloc, &geometry, &marks, &live)?;
-    if verdict != Verdict::Sound {
-        return Ok((verdict, Vec::new(alloc)));
     }
-    Ok((verdict, hold(alloc, &geometry, cells, scheme, &live)?))
 }

@@ -14,8 +14,8 @@ mod repeat;
 mod row;
 mod verdict;
 
-pub use judge::audit;
 pub use header_cells::header_cells_lie_below_valid_words_by_their_ones;
+pub use judge::audit;
 pub use row::{Held, RowBytes};
 pub use verdict::Verdict;
 

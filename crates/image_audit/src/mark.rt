@@ -77,8 +77,8 @@ fn mark_slot(
 {
     let spare = geometry.spare(cells, place.page);
     let Some(header) = header_at(spare, place.slot) else {
-        let start = 16 * place.slot as usize + 1;
-        if lies_below_valid(&spare[start..start + 14]) {
+        let start = 16 * place.slot as usize;
+        if lies_below_valid(&spare[start + 1..start + 15]) {
             return Ok(());
         }
         return Err(Unread::Bad(place));

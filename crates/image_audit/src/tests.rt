@@ -9,7 +9,9 @@ use striped::Striped;
 
 /// The word of sector 0 with seq 1, that of sector 1 with seq 2, and that of sector 0 with seq 2^62 + 2^20; all of kind 1.
 const FIRST: [u8; 14] = [0, 0, 0, 0, 1, 0, 0, 0, 0, 0, 0, 0, 1, 0x66];
+
 const SECOND: [u8; 14] = [1, 0, 0, 0, 2, 0, 0, 0, 0, 0, 0, 0, 1, 0x65];
+
 const HIGH: [u8; 14] = [0, 0, 0, 0, 0, 0, 0x10, 0, 0, 0, 0, 0x40, 1, 0x65];
 
 /// A die of two blocks, with as many pages of a block and sectors as are said.

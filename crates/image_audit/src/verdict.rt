@@ -6,7 +6,10 @@ pub enum Verdict {
     /// The cells are sound.
     Sound,
     /// The header cells of this slot lie below no valid word.
-    Header { page: u32, slot: u32 },
+    Header {
+        page: u32,
+        slot: u32,
+    },
     /// The seq of this valid header stands in a later one too, the first such.
     SameSeq {
         page: u32,
@@ -17,5 +20,8 @@ pub enum Verdict {
     /// Every block has a live record.
     NoSpare,
     /// The seq of this valid header is `2^62 + 2^20` or more.
-    Number { page: u32, slot: u32 },
+    Number {
+        page: u32,
+        slot: u32,
+    },
 }
