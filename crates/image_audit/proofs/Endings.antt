@@ -115,24 +115,24 @@ byte_above (suc k) x m h least greatest = elim (cases_lt (ones x) m) [
     at y f (suc i) = let halved : (1 + 2 * y) / 2 ≡ y = omega arith in omega (arith, f i, bit_at-suc x i, bit_at-suc (1 + 2 * y) i, ap (λ (n : ℕ). bit_at n i) halved)
 
 -- above some bytes stand others with any smaller number of zeros
-record BytesAbove (xs : List ℕ) (zeros : ℕ) : Type 0 where
+record BytesAbove (xs : List ℕ) (wanted : ℕ) : Type 0 where
   bytes : List ℕ
   long : length bytes ≡ length xs
   small : are_bytes bytes ≡ true
-  count : zero_bits bytes ≡ zeros
+  count : zero_bits bytes ≡ wanted
   above : (k i : ℕ) → bit_at (slice_index xs k) i ≤ bit_at (slice_index bytes k) i
 
-bytes_above : (xs : List ℕ) (zeros : ℕ) → are_bytes xs ≡ true → zeros ≤ zero_bits xs → BytesAbove xs zeros
-bytes_above [] zeros h few = record { bytes = []; long = refl; small = refl; count = omega arith; above = λ k i. omega arith }
-bytes_above (x ∷ xs) zeros h few =
+bytes_above : (xs : List ℕ) (wanted : ℕ) → are_bytes xs ≡ true → wanted ≤ zero_bits xs → BytesAbove xs wanted
+bytes_above [] wanted h few = record { bytes = []; long = refl; small = refl; count = omega arith; above = λ k i. omega arith }
+bytes_above (x ∷ xs) wanted h few =
     let p = and_parts (nat_lt x 256) (are_bytes xs) h in
-    let all : zero_bits (x ∷ xs) ≡ (8 - ones x) + zero_bits xs = sum_by-cons _ x xs in
+    let all : zero_bits (x ∷ xs) ≡ (8 - ones x) + zero_bits xs = sum_by-cons (λ (byte : ℕ). 8 - ones byte) x xs in
     let ones_few : ones x ≤ 8 = ones-le 8 x (ltb-true x 256 p.0) in
-    let tail = min zeros (zero_bits xs) in
-    let head : ByteAbove 8 x (8 - (zeros - tail)) = byte_above 8 x (8 - (zeros - tail)) (ltb-true x 256 p.0) (omega arith) (omega arith) in
+    let tail = min wanted (zero_bits xs) in
+    let head : ByteAbove 8 x (8 - (wanted - tail)) = byte_above 8 x (8 - (wanted - tail)) (ltb-true x 256 p.0) (omega arith) (omega arith) in
     let rest : BytesAbove xs tail = bytes_above xs tail p.1 (omega arith) in
-    let counted : zero_bits (head.byte ∷ rest.bytes) ≡ (8 - ones head.byte) + zero_bits rest.bytes = sum_by-cons _ head.byte rest.bytes in
-    let head_ones : ones head.byte ≡ 8 - (zeros - tail) = head.count in
+    let counted : zero_bits (head.byte ∷ rest.bytes) ≡ (8 - ones head.byte) + zero_bits rest.bytes = sum_by-cons (λ (byte : ℕ). 8 - ones byte) head.byte rest.bytes in
+    let head_ones : ones head.byte ≡ 8 - (wanted - tail) = head.count in
     let rest_zeros : zero_bits rest.bytes ≡ tail = rest.count in
     record {
       bytes = head.byte ∷ rest.bytes;
