@@ -4,13 +4,14 @@ ghost use Rattle.std.specs.List.{All};
 ghost use Rattle.rssd_core.specs.DeviceValue.{Numbers};
 ghost use Rattle.rssd_io.specs.Faults.{HasCause};
 ghost use Rattle.rssd_run.specs.Run.{RunsSession, CutsOffSession};
-ghost use Rattle.rssd_run.specs.Shows.{SessionValue, CanStep, HasNumbers, StepsSession};
+ghost use Rattle.rssd_run.specs.Shows.{SessionValue, CanStep, HasNumbers, KeepsSession, StepsSession};
 
 pub mod image;
 pub mod image_run;
 pub mod line;
 pub mod on_die;
 pub mod replay;
+pub mod reuse;
 pub mod schemes;
 pub mod script;
 pub mod session;
@@ -46,6 +47,7 @@ pub fn run_lines<S: Stepping, O: Sink>(
     ensures err { OnErr result ((d : Numbers) → HasNumbers d (S.session session.old).holding
         → CutsOffSession d lines.now (S.session session.old) (S.session session.new) (O.written out.old) (O.written out.new)) }
     ensures cause { HasCause (O.faults out.old) (O.faults out.new) result }
+    ensures keeps { (d : Numbers) → HasNumbers d (S.session session.old).holding → KeepsSession d (S.session session.old) (S.session session.new) }
 {
     for line in lines {
         let reply = session.step(alloc, line);

@@ -4,6 +4,7 @@ use Rattle.std.proofs.lemmas.List.{take_more}
 use Rattle.std.proofs.lemmas.List.Elements.{All-get_or}
 use Rattle.rssd_script.specs.Replies.{reply_line}
 use Rattle.rssd_run.specs.Run.{is_cut}
+use Rattle.rssd_run.proofs.Parts.{keeps_none, keeps_more}
 use Rattle.rssd_run.proofs.Runs.{run_of_none, run_of_more, run_cut_off, calm_now, calm_on}
 use Rattle.rssd_run.proofs.run.run_lines.Goals as goal
 
@@ -11,6 +12,7 @@ pub loop-line-init : goal.loop-line-init
 loop-line-init g c = record {
   numbers = λ d numbers. numbers;
   runs = λ d numbers before shows calm. (before, shows, calm, run_of_none d before (g.O.Sink.written c.args.out.now));
+  keeps = λ d numbers die has. (die, has, keeps_none d die);
   faults = refl;
 }
 
@@ -29,12 +31,16 @@ loop-line-preserved g c =
       numbers = λ d numbers. c.step-reply.ensures.numbers d (c.loop-line.invariant.numbers d numbers);
       runs = λ d numbers before shows calm.
           let so = c.loop-line.invariant.runs d numbers before shows calm in
-          let s = c.step-reply.ensures.step d (c.loop-line.invariant.numbers d numbers) so.0 so.1 (calm_now d so.0.device.die lines so.2) in (
+          let s = (c.step-reply.ensures.step d (c.loop-line.invariant.numbers d numbers)).step so.0 so.1 (calm_now d so.0.device.die lines so.2) in (
             s.0,
             s.1,
             calm_on d so.0 s.0 line reply lines s.2 among so.2,
             rw more (run_of_more d before so.0 s.0 (take i lines) line reply (written c.args.out.now) (written c.loop-line.out) (written c.give.new.self) so.3 s.2 given),
           );
+      keeps = λ d numbers die has.
+          let one = c.loop-line.invariant.keeps d numbers die has in
+          let two = (c.step-reply.ensures.step d (c.loop-line.invariant.numbers d numbers)).keeps one.0 one.1 in
+          (two.0, two.1, keeps_more d die one.0 two.0 one.2 two.2);
       faults = c.in_ok-give.ensures.cause.kept ∙ c.loop-line.invariant.faults;
     }
 
@@ -59,8 +65,14 @@ returns-in_err-give-clause-err g c =
     let given = rw text at c.in_err-give.ensures.err.1 in
     on_err c.from_residual.result _ (λ d numbers before shows calm.
     let so = c.loop-line.invariant.runs d numbers before shows calm in
-    let s = c.step-reply.ensures.step d (c.loop-line.invariant.numbers d numbers) so.0 so.1 (calm_now d so.0.device.die lines so.2) in (
+    let s = (c.step-reply.ensures.step d (c.loop-line.invariant.numbers d numbers)).step so.0 so.1 (calm_now d so.0.device.die lines so.2) in (
       s.0,
       s.1,
       run_cut_off d before so.0 s.0 (take i lines) line reply (written c.args.out.now) (written c.loop-line.out) (written c.give.new.self) so.3 s.2 lines front c.in_err-give.ensures.err.0 given,
     ))
+
+pub returns-in_err-give-clause-keeps : goal.returns-in_err-give-clause-keeps
+returns-in_err-give-clause-keeps g c = λ d numbers die has.
+    let one = c.loop-line.invariant.keeps d numbers die has in
+    let two = (c.step-reply.ensures.step d (c.loop-line.invariant.numbers d numbers)).keeps one.0 one.1 in
+    (two.0, two.1, keeps_more d die one.0 two.0 one.2 two.2)
