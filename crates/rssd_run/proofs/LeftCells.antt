@@ -12,6 +12,7 @@ use Rattle.die_image.specs.declared.head.ImageHead.{ImageHead}
 use Rattle.die_image.specs.Image.{shape_of, die_bytes, AreCells}
 use Rattle.die_image.specs.Pads.{is_pad_charged}
 use Rattle.die_image.proofs.NoPad.{no_pad, none_charged}
+use Rattle.rssd_io.specs.Event.{Event as Act}
 use Rattle.rssd_script.specs.declared.lines.Line.{Line}
 use Rattle.rssd_run.specs.Heads.{numbers_named}
 use Rattle.rssd_run.specs.ImageRuns.{HasCells, RunsImage}
@@ -37,8 +38,8 @@ sizes_are : (head : ImageHead) → page_count (shape_of head) * page_bytes (shap
 unfolding die_bytes
 sizes_are head = refl
 
-module _ (head : ImageHead) (cells left : List ℕ) (last : DieState) (lines : List Line) (written written_after : Option (List ℕ))
-    (given : RunsImage head cells lines written written_after last) (are : AreCells head cells) where
+module _ (head : ImageHead) (cells left : List ℕ) (last : DieState) (lines : List Line) (log log_after : List Act)
+    (given : RunsImage head cells lines log log_after last) (are : AreCells head cells) where
   abbrev None : List (List ℕ) → Type 0
   None pages = NoPadCharged (shape_of head) pages
 

@@ -1,0 +1,62 @@
+//! The name of a file that is opened or created later. That it could not be is on record, and nothing else reaches the files.
+ghost use Rattle.std.specs.Prelude.{◌≡◌, ◌++◌, [], ◌∷◌, MatchResult};
+ghost use Rattle.rssd_io.specs.Event.{moved, flushed, failed};
+
+use crate::log::Log;
+use crate::{ReadFault, WriteFault};
+use std::fs;
+use std::rt::Files;
+
+/// A file by its name, and the record of the calls that failed to open it.
+#[derive(Drop)]
+pub(crate) struct Opener<'a, R: Files> {
+    rt: &'a R,
+    name: &'a str,
+    log: Log,
+}
+
+impl<'a, R: Files> Opener<'a, R> {
+    pub(crate) fn new(rt: &'a R, name: &'a str) -> Opener<'a, R>
+        ensures { result.log.events ≡ [] }
+    {
+        Opener {
+            rt,
+            name,
+            log: Log::new(),
+        }
+    }
+
+    /// Opens the file, or notes that this failed.
+    pub(crate) fn open(&mut self) -> Result<R::File, ReadFault>
+        ensures { MatchResult result (λ _. self.new.log.events ≡ self.old.log.events) (λ _. self.new.log.events ≡ self.old.log.events ++ failed ∷ []) }
+    {
+        match fs::open(self.rt, self.name) {
+            Ok(file) => Ok(file),
+            Err(_) => {
+                self.log.note_failure();
+                Err(ReadFault)
+            }
+        }
+    }
+
+    /// Creates the file, or notes that this failed.
+    pub(crate) fn create(&mut self) -> Result<R::File, WriteFault>
+        ensures { MatchResult result (λ _. self.new.log.events ≡ self.old.log.events) (λ _. self.new.log.events ≡ self.old.log.events ++ moved [] ∷ failed ∷ []) }
+    {
+        match fs::create(self.rt, self.name) {
+            Ok(file) => Ok(file),
+            Err(_) => {
+                self.log.note(&[]);
+                self.log.note_failure();
+                Err(WriteFault)
+            }
+        }
+    }
+
+    /// Nothing waits where nothing was created.
+    pub(crate) fn keep(&mut self)
+        ensures { self.new.log.events ≡ self.old.log.events ++ flushed ∷ [] }
+    {
+        self.log.note_flush();
+    }
+}
