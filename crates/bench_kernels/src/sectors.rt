@@ -103,7 +103,13 @@ fn over_rounds<C: Scheme>(
     sum
 }
 
-fn read_rounds<C: Scheme>(scheme: &C, units: &[u8], unit_bytes: usize, page_bytes: usize, rounds: u32) -> u64
+fn read_rounds<C: Scheme>(
+    scheme: &C,
+    units: &[u8],
+    unit_bytes: usize,
+    page_bytes: usize,
+    rounds: u32,
+) -> u64
     requires sector { (C.meaning scheme.now).sector_bytes ≡ 512 }
     requires page { page_bytes ≡ (C.meaning scheme.now).page_bytes }
     requires some_page { 1 ≤ page_bytes }
@@ -113,7 +119,9 @@ fn read_rounds<C: Scheme>(scheme: &C, units: &[u8], unit_bytes: usize, page_byte
     let mut sum: u64 = 0;
     for round in 0..rounds {
         for unit in units.chunks_exact(unit_bytes) {
-            scheme.read_first(&unit[..page_bytes], &mut sector);
+            if let Some(page) = unit.get(..page_bytes) {
+                scheme.read_first(page, &mut sector);
+            }
             sum = sum.wrapping_add(sector[round as usize % SECTOR_BYTES] as u64);
         }
     }
@@ -121,7 +129,12 @@ fn read_rounds<C: Scheme>(scheme: &C, units: &[u8], unit_bytes: usize, page_byte
 }
 
 /// A byte of each page, unit or sector that the rounds make, summed.
-fn rounds_of<C: Scheme + Drop>(alloc: Global, mut scheme: C, work: Work, rounds: u32) -> Result<u64> {
+fn rounds_of<C: Scheme + Drop>(
+    alloc: Global,
+    mut scheme: C,
+    work: Work,
+    rounds: u32,
+) -> Result<u64> {
     let page_bytes = scheme.page_bytes() as usize;
     let span = scheme.span() as usize;
     ensure!(scheme.sector_bytes() == 512, "512 bytes");
@@ -156,17 +169,29 @@ pub fn scheme_rounds(alloc: Global, name: &str, work: Work, rounds: u32) -> Resu
         }
         "ham512" => {
             let code = HammingSeven::new();
-            let scheme: Striped<_, _, 3, 7, 7> = Striped::with_generations(alloc, code, code, 512, 3)?;
+            let scheme: Striped<_, _, 3, 7, 7> = Striped::with_generations(
+                alloc, code, code, 512, 3,
+            )?;
             rounds_of(alloc, scheme, work, rounds)
         }
         "coset512" => {
             let first: Plain<128, 144> = Plain::new();
-            let scheme: Striped<_, _, 128, 144, 288> = Striped::new(alloc, first, unit_code(alloc)?, 512)?;
+            let scheme: Striped<_, _, 128, 144, 288> = Striped::new(
+                alloc,
+                first,
+                unit_code(alloc)?,
+                512,
+            )?;
             rounds_of(alloc, scheme, work, rounds)
         }
         "flip512" => {
             let first: Flip<128, 144> = Flip::new();
-            let scheme: Striped<_, _, 128, 144, 288> = Striped::new(alloc, first, unit_code(alloc)?, 512)?;
+            let scheme: Striped<_, _, 128, 144, 288> = Striped::new(
+                alloc,
+                first,
+                unit_code(alloc)?,
+                512,
+            )?;
             rounds_of(alloc, scheme, work, rounds)
         }
         _ => bail!("no scheme {name}"),

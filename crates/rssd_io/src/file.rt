@@ -1,8 +1,10 @@
-//! Files as sources and sinks: a file is opened at the first take and created at the first give, and each error is on record.
-ghost use Rattle.std.specs.Prelude.{◌≡◌, ◌++◌, []};
-ghost use Rattle.rssd_io.specs.Files.{opened_log, opened_left, created_log, created_written};
+//! Files as sources and sinks: a file is opened at the first take, and a new one is written at the gives and put in its place at
+//! the flush. Each error is on record.
+ghost use Rattle.std.specs.Prelude.{◌≡◌, ◌++◌, [], None};
+ghost use Rattle.rssd_io.specs.Files.{opened_log, opened_left, placed_log};
 
 use crate::opener::Opener;
+use crate::standard::Place;
 use crate::{ReadFault, Sink, Source, StdSink, StdSource, WriteFault};
 use std::rt::Files;
 
@@ -42,46 +44,60 @@ impl<'a, R: Files> Source for FileSource<'a, R> {
     }
 }
 
-/// A file as a sink. A file that cannot be created is a failure.
+/// A file as a sink. What is given is written to a new file beside the one of this name, and takes its place, synced and in one
+/// step, at the flush: until then, and where a call fails or the program is killed, the file of this name is as it was. After a
+/// failure every call fails.
 #[derive(Drop)]
 pub struct FileSink<'a, R: Files> {
-    opener: Opener<'a, R>,
-    created: Option<StdSink<R::File>>,
+    place: Place<'a, R>,
+    written: Option<StdSink<R::File>>,
 }
 
 impl<'a, R: Files> FileSink<'a, R> {
-    /// The file of this name, which is not created yet.
+    /// The file of this name, for which nothing is written yet.
     pub fn new(rt: &'a R, name: &'a str) -> FileSink<'a, R>
-        ensures { result.opener.log.events ++ created_log result.created ≡ [] }
+        ensures { placed_log result.place.log.events result.written ≡ [] }
     {
         FileSink {
-            opener: Opener::new(rt, name),
-            created: None,
+            place: Place::new(rt, name),
+            written: None,
         }
     }
 }
 
 impl<'a, R: Files> Sink for FileSink<'a, R> {
-    ghost log = { λ s. s.opener.log.events ++ created_log s.created };
+    ghost use Rattle.std.specs.Prelude.{◌≡◌, false, None, OnOk, OnErr};
+    ghost use Rattle.std.specs.Io.KnownBytes.{Appends, Keeps};
+    ghost use Rattle.rssd_io.specs.Event.{Gave, Flushed};
+    ghost use Rattle.rssd_io.specs.Faults.{AppendsFront};
+    ghost use Rattle.rssd_io.specs.Files.{placed_log};
 
-    ghost written = { λ s. created_written R.File.contents s.created };
+    ghost log = { λ s. placed_log s.place.log.events s.written };
+
+    ghost written = { λ _. None };
 
     fn give(&mut self, piece: &[u8]) -> Result<(), WriteFault> {
-        if let Some(sink) = &mut self.created {
-            return sink.give(piece);
-        }
-        let file = self.opener.create()?;
-        let mut sink = StdSink::new(file);
+        let mut sink = match self.written.take() {
+            Some(sink) => sink,
+            None => self.place.create()?,
+        };
         let given = sink.give(piece);
-        self.created = Some(sink);
+        match given {
+            Ok(()) => self.written = Some(sink),
+            Err(_) => self.place.give_up(sink),
+        }
         given
     }
 
-    fn flush(&mut self) -> Result<(), WriteFault> {
-        if let Some(sink) = &mut self.created {
-            return sink.flush();
+    fn flush(&mut self) -> Result<(), WriteFault>
+        ensures log { Flushed result (placed_log self.old.place.log.events self.old.written) (placed_log self.new.place.log.events self.new.written) }
+        ensures same { Keeps None None }
+        // All that was written is in its place, and nothing of it was lost.
+        ensures placed { OnOk result ((self.new.written ≡ None) × (self.new.place.is_lost ≡ false)) }
+    {
+        match self.written.take() {
+            Some(sink) => self.place.put(sink),
+            None => self.place.keep(),
         }
-        self.opener.keep();
-        Ok(())
     }
 }

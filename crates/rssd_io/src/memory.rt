@@ -1,6 +1,7 @@
 //! Sources and sinks in memory. A call fails exactly where its number, counted from 1, is listed, and a sink also where a
 //! piece does not fit its room; such a call moves no byte.
 ghost use Rattle.std.specs.Prelude.{◌≡◌, ◌≤◌, [], Some, min, take, length, IfOk, vec_capacity};
+ghost use Rattle.rssd_io.specs.Event.{bytes_of};
 
 use crate::log::Log;
 use crate::{ReadFault, Sink, Source, WriteFault};
@@ -142,6 +143,7 @@ pub struct MemSink {
     calls: u64,
     log: Log,
     ghost has_room: { room ≤ vec_capacity bytes },
+    ghost on_record: { bytes_of log.events ≡ bytes.items },
 }
 
 impl MemSink {

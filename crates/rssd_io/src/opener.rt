@@ -1,9 +1,9 @@
-//! The name of a file that is opened or created later. That it could not be is on record, and nothing else reaches the files.
+//! The name of a file that is opened later. That it could not be is on record, and nothing else reads files.
 ghost use Rattle.std.specs.Prelude.{◌≡◌, ◌++◌, [], ◌∷◌, MatchResult};
-ghost use Rattle.rssd_io.specs.Event.{moved, flushed, failed};
+ghost use Rattle.rssd_io.specs.Event.{failed};
 
+use crate::ReadFault;
 use crate::log::Log;
-use crate::{ReadFault, WriteFault};
 use std::fs;
 use std::rt::Files;
 
@@ -37,26 +37,5 @@ impl<'a, R: Files> Opener<'a, R> {
                 Err(ReadFault)
             }
         }
-    }
-
-    /// Creates the file, or notes that this failed.
-    pub(crate) fn create(&mut self) -> Result<R::File, WriteFault>
-        ensures { MatchResult result (λ _. self.new.log.events ≡ self.old.log.events) (λ _. self.new.log.events ≡ self.old.log.events ++ moved [] ∷ failed ∷ []) }
-    {
-        match fs::create(self.rt, self.name) {
-            Ok(file) => Ok(file),
-            Err(_) => {
-                self.log.note(&[]);
-                self.log.note_failure();
-                Err(WriteFault)
-            }
-        }
-    }
-
-    /// Nothing waits where nothing was created.
-    pub(crate) fn keep(&mut self)
-        ensures { self.new.log.events ≡ self.old.log.events ++ flushed ∷ [] }
-    {
-        self.log.note_flush();
     }
 }

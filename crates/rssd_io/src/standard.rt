@@ -5,8 +5,11 @@ ghost use Rattle.rssd_io.specs.Faults.{AppendsFront};
 ghost use Rattle.rssd_io.specs.Event.{Gave, Flushed};
 ghost use Rattle.rssd_io.specs.Standard.{source_log, sink_log};
 
+mod place;
+
 use crate::log::Log;
 use crate::{ReadFault, Sink, Source, WriteFault};
+pub(crate) use place::Place;
 use std::io::{Read, Write};
 
 /// A reader as a source.

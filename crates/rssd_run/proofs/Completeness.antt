@@ -35,7 +35,7 @@ replay_stopped head call says = elim says.stops [
       let part : List ℕ = take e.front (reply_line e.last.reply) in
       let given : List Event = all_given (pieces_of e.events) in
       failed_since call.out.before call.out.after (given ++ moved part ∷ []) (e.given ∙ ap (λ (xs : List Event). call.out.before ++ xs) (sym (append_assoc given (moved part ∷ []) (failed ∷ []))))
-    )
+      )
   | inr all ↦ unflushed call.out.before all.0 call.out.after (all_given (pieces_of all.1.run.events)) all.1.run.given all.2
 ]
 

@@ -1,10 +1,16 @@
 -- An image that is given in pieces: those that were given, and those of the bytes that are left, are the pieces of the whole.
-use Rattle.std.proofs.Common.{◌≡◌, ℕ, zero, suc, ◌+◌, ◌-◌, ◌<◌, ◌≤◌, min, List, [], ◌∷◌, ◌++◌, length, take, drop, map, get_or, refl, sym, ap, ◌∙◌, subst, inl, inr, arith, append-nil, append_assoc, length-append}
-use Rattle.std.proofs.lemmas.List.{length-drop, nil_from_length}
-use Rattle.rssd_io.specs.Event.{Event, moved, failed}
+use Rattle.std.proofs.Common.{◌≡◌, ℕ, zero, suc, ◌+◌, ◌-◌, ◌*◌, ◌<◌, ◌≤◌, false, min, List, [], ◌∷◌, ◌++◌, length, take, drop, map, get_or, refl, sym, ap, ◌∙◌, subst, inl, inr, arith, append-nil, append_assoc, length-append}
+use Rattle.std.proofs.lemmas.List.{length-drop, nil_from_length, take-append-drop}
+use Rattle.rssd_io.specs.Event.{Event, bytes_of, moved, failed}
 use Rattle.rssd_io.specs.Pieces.{all_given, Gives, StopsIn}
 use Rattle.rssd_io.proofs.Logs.{given_append}
-use Rattle.rssd_run.specs.GiveImage.{cut, pages_in}
+use Rattle.cell_die.specs.DieState.{page_bytes}
+use Rattle.die_image.specs.declared.scheme.SchemeName.{SchemeName}
+use Rattle.die_image.specs.declared.scheme.SchemeName.TheVariants.{Plain16, Rs16, Rs512, Coset16, Coset512, Flip16, Flip512, Ham16, Ham512}
+use Rattle.die_image.specs.declared.head.ImageHead.{ImageHead}
+use Rattle.die_image.specs.Schemes.{row_of}
+use Rattle.die_image.specs.Image.{image, first_bytes, word, shape_of}
+use Rattle.rssd_run.specs.GiveImage.{cut, pages_in, image_pieces}
 
 -- so many pieces at most are enough
 cut_enough : (size most more : ℕ) (bytes : List ℕ) → 0 < size → length bytes ≤ most → length bytes ≤ more → cut size most bytes ≡ cut size more bytes
@@ -108,3 +114,34 @@ unfolding cut
 given_whole old new whole size rest is none =
     let left : pages_in size rest ≡ [] = ap (pages_in size) (nil_from_length rest none) in
     is.given ∙ ap (λ (pieces : List (List ℕ)). old ++ all_given pieces) (sym (append-nil is.front) ∙ (ap (λ (xs : List (List ℕ)). is.front ++ xs) (sym left) ∙ is.both))
+
+-- ---- the pieces of an image, one after another, are the image
+
+cut_bytes : (size most : ℕ) (bytes : List ℕ) → 0 < size → length bytes ≤ most → bytes_of (all_given (cut size most bytes)) ≡ bytes
+unfolding cut
+cut_bytes size zero [] some fits = refl
+cut_bytes size (suc most) [] some fits = refl
+cut_bytes (suc size) (suc most) (byte ∷ bytes) some fits =
+    ap (λ (xs : List ℕ). take (suc size) (byte ∷ bytes) ++ xs) (cut_bytes (suc size) most (drop size bytes) some (omega (arith, fits, length-drop size bytes))) ∙ take-append-drop (suc size) (byte ∷ bytes)
+cut_bytes size zero (byte ∷ bytes) some fits = absurd (omega (arith, fits))
+cut_bytes zero most bytes some fits = absurd (omega (arith, some))
+
+page_size : (scheme : SchemeName) → 0 < (row_of scheme).page_bytes + 16 * (row_of scheme).generations
+unfolding row_of
+page_size Plain16 = omega arith
+page_size Rs16 = omega arith
+page_size Rs512 = omega arith
+page_size Coset16 = omega arith
+page_size Coset512 = omega arith
+page_size Flip16 = omega arith
+page_size Flip512 = omega arith
+page_size Ham16 = omega arith
+page_size Ham512 = omega arith
+
+joined : (head : ImageHead) (cells : List ℕ) → image head [] ++ cells ≡ image head cells
+unfolding image
+joined head cells = append_assoc (first_bytes false head ++ word (row_of head.scheme).generations) [] cells
+
+pub image_bytes : (head : ImageHead) (cells : List ℕ) → bytes_of (all_given (image_pieces head cells)) ≡ image head cells
+image_bytes head cells =
+    ap (λ (xs : List ℕ). image head [] ++ xs) (cut_bytes (page_bytes (shape_of head)) (length cells) cells (page_size head.scheme) (omega arith)) ∙ joined head cells

@@ -1,9 +1,10 @@
 //! An image from a source and to a sink, in pieces. The head is tested before any more is read, and no byte is read that cannot
 //! change the answer. The whole image is not held beside its cells.
-ghost use Rattle.std.specs.Prelude.{◌≡◌, false, [], min, IfOk, OnOk, IfErr, OnErr};
-ghost use Rattle.die_image.specs.Image.{wanted, AreCells};
-ghost use Rattle.rssd_io.specs.Event.{since};
-ghost use Rattle.rssd_io.specs.Pieces.{HandsOn, StopsIn};
+ghost use Rattle.std.specs.Prelude.{◌≡◌, ℕ, List, false, [], min, IfOk, OnOk, IfErr, OnErr};
+ghost use Rattle.die_image.specs.declared.head.ImageHead.{ImageHead as Head};
+ghost use Rattle.die_image.specs.Image.{image, wanted, AreCells};
+ghost use Rattle.rssd_io.specs.Event.{bytes_of, since};
+ghost use Rattle.rssd_io.specs.Pieces.{HandsOn, StopsIn, all_given};
 ghost use Rattle.rssd_run.specs.GiveImage.{image_pieces};
 ghost use Rattle.rssd_run.specs.ReadImage.{ReadsImage, RefusesImage, TakesImage, IsFed, HasAll};
 
@@ -92,6 +93,11 @@ pub fn give_image<G: Sink>(
     }
     image_out.flush()
 }
+
+/// The pieces of an image, one after another, are the image.
+pub fn the_pieces_of_an_image_are_the_image()
+    ensures { (head : Head) (cells : List ℕ) → bytes_of (all_given (image_pieces head cells)) ≡ image head cells }
+{}
 
 #[cfg(test)]
 mod tests;
