@@ -1,5 +1,5 @@
 -- The cells that a run on an image leaves are those of an image again.
-use Rattle.std.proofs.Common.{◌≡◌, ℕ, ◌*◌, false, List, length, Option, refl, sym, ap, ◌∙◌, subst}
+use Rattle.std.proofs.Common.{◌≡◌, ℕ, ◌*◌, false, List, length, refl, sym, ap, ◌∙◌, subst}
 use Rattle.std.specs.Fork.{slice_chunk}
 use Rattle.cell_die.specs.declared.shape.Shape.{Shape}
 use Rattle.cell_die.specs.Cells.{page_at, is_charged}
@@ -7,14 +7,12 @@ use Rattle.cell_die.specs.DieState.{DieState, page_count, page_bytes}
 use Rattle.cell_die.specs.Pads.{NoPadCharged}
 use Rattle.mem_die.specs.Pages.{pages_of}
 use Rattle.mem_die.specs.PageLaws.{page_at-pages}
-use Rattle.page_codec.specs.Geometry.{shape_of as geometry_shape}
 use Rattle.die_image.specs.declared.head.ImageHead.{ImageHead}
 use Rattle.die_image.specs.Image.{shape_of, die_bytes, AreCells}
 use Rattle.die_image.specs.Pads.{is_pad_charged}
 use Rattle.die_image.proofs.NoPad.{no_pad, none_charged}
 use Rattle.rssd_io.specs.Event.{Event as Act}
 use Rattle.rssd_script.specs.declared.lines.Line.{Line}
-use Rattle.rssd_run.specs.Heads.{numbers_named}
 use Rattle.rssd_run.specs.ImageRuns.{HasCells, RunsImage}
 use Rattle.rssd_run.proofs.DieStart.{named_shape}
 

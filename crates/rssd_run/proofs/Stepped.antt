@@ -1,5 +1,5 @@
 -- Lines on a device that runs: what its calls leave are steps for every view that it stands for.
-use Rattle.std.proofs.Common.{◌≡◌, ◌⊎◌, inl, inr, ℕ, ◌≤◌, ◌<◌, List, [], Option, IsSomeAnd, Bool, true, false, length, None, Some, refl, sym, ap, ◌∙◌, slice_index_or}
+use Rattle.std.proofs.Common.{◌≡◌, ◌⊎◌, inl, inr, ℕ, ◌≤◌, ◌<◌, List, [], IsSomeAnd, Bool, true, false, length, refl, sym, ap, ◌∙◌, slice_index_or}
 use Rattle.cell_die.specs.DieState.{DieState, Failures}
 use Rattle.cell_die.specs.Calls.{ChangeFailed, CutCame as Cut, Passed, ReadFailed}
 use Rattle.cell_die.specs.Power.{told, with_cut, with_read_failure}
@@ -17,7 +17,6 @@ use Rattle.rssd_core.specs.Within.{Went, WithinWrite, WithinTrim, WithinIdle, se
 use Rattle.rssd_core.specs.Outcomes.{Holds, Wrote, WriteFault, Trimmed, TrimFault, Idled, IdleFault, OnlyDie, Faulted, ReadFault, ChangeFault, TrueWhileRunning}
 use Rattle.rssd_run.specs.ArrayWithCuts.{On, Off}
 use Rattle.rssd_run.specs.Held.{Tallies, on, off, Calm, reply_of}
-use Rattle.std.specs.Option.{option_map}
 use Rattle.rssd_run.proofs.LineSteps.{cut_step, fail_read_step, read_step, read_fault_step}
 use Rattle.rssd_run.proofs.CommandSteps.{bounded, trimmed_step, trim_read_fault, trim_change_fault, idled_step, idle_read_fault, idle_change_fault}
 use Rattle.rssd_run.specs.Armed.{form_of_word}

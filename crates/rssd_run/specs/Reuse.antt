@@ -1,5 +1,5 @@
 -- What writes over used cells save: an erase comes only with a record on a clean page, and with a command that failed.
-use Rattle.std.specs.Prelude.{◌≡◌, ℕ, ◌+◌, ◌≤◌, true, if◌then◌else◌, List, All, sum_by}
+use Rattle.std.specs.Prelude.{◌≡◌, ℕ, ◌+◌, ◌≤◌, if◌then◌else◌, List, All, sum_by}
 use Rattle.rssd_script.specs.declared.lines.Line.{Line}
 use Rattle.rssd_script.specs.declared.lines.Line.TheVariants.{Write, Trim, Idle}
 use Rattle.rssd_script.specs.declared.replies.Reply.{Reply}

@@ -1,5 +1,5 @@
 -- A line more is a step more, and its text is given after the others.
-use Rattle.std.proofs.Common.{◌≡◌, ℕ, ◌+◌, ◌++◌, ◌∷◌, [], All, length, take, ◌∙◌, refl, sym, ap, subst, arith, false, Result, Ok, Err, OnErr, length-take, append-nil, List}
+use Rattle.std.proofs.Common.{◌≡◌, ℕ, ◌+◌, ◌++◌, ◌∷◌, [], All, length, take, ◌∙◌, sym, ap, subst, arith, false, Result, Ok, Err, OnErr, length-take, append-nil, List}
 use Rattle.std.proofs.lemmas.List.{take_more}
 use Rattle.std.proofs.lemmas.List.Elements.{All-get_or}
 use Rattle.rssd_io.specs.Event.{moved, failed}
