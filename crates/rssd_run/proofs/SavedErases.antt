@@ -138,5 +138,5 @@ runs_erase_few d before after (e ∷ events) run =
     let here = (step_saves d e run.1).once in
     let rest = runs_erase_few d e.after after events run.2 in
     let most : most_erases d (e ∷ events) ≡ erases_at_most d e.before e.line e.reply + most_erases d events
-        = sum_by-cons (λ (e : Event). erases_at_most d e.before e.line e.reply) e events in
+    = sum_by-cons (λ (e : Event). erases_at_most d e.before e.line e.reply) e events in
     omega (arith, begins, here, rest, most)

@@ -20,7 +20,7 @@ pub invariant_of-self : goal.invariant_of-self
 invariant_of-self g c =
     let p : Parts g.row.D.Denot g.row.C.Denot g.row.F.Denot = record { mounted = c.self.inside.mounted; closed = c.self.inside.closed; plan = c.self.inside.plan; base = c.self.inside.base } in
     let gave : Gave g.D.Die.state g.C.Scheme.meaning g.F.Device.device p c.close_held-die.result c.close_held-die.new.base
-        = record { device_is = c.close_held-die.ensures.device; counts = c.close_held-die.ensures.counts; die = c.close_held-die.ensures.die } in
+    = record { device_is = c.close_held-die.ensures.device; counts = c.close_held-die.ensures.counts; die = c.close_held-die.ensures.die } in
     record {
       small = gave_small g.D.Die.state g.C.Scheme.meaning g.F.Device.device p c.close_held-die.result c.close_held-die.new.base gave c.self.invariant.small p.mounted refl;
       held = held_again g.D.Die.state g.C.Scheme.meaning g.F.Device.device p c.close_held-die.result c.close_held-die.new.base gave c.self.invariant.held c.in-Ok.ftl c.in-Ok.ensures.done;
