@@ -147,12 +147,13 @@ class Refused(Exception):
 
 
 MAGIC = b"WOMFLASH"
+HEAD_BYTES, OLD_HEAD_BYTES = 32, 28
 
 
 def read_head(data):
     """The version of an image, its head, and where its pages begin."""
     version = int.from_bytes(data[8:10], "little")
-    begin = 28 if version == 1 else 32
+    begin = OLD_HEAD_BYTES if version == 1 else HEAD_BYTES
     if len(data) < begin:
         raise Refused("bad image short")
     if data[:8] != MAGIC:

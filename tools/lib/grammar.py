@@ -15,8 +15,8 @@ STATUSES = {
     3: "the script was refused and nothing was run; tools/why WORDS < SCRIPT says why",
     4: "die.img was refused and nothing was run; tools/die info die.img says more",
     5: "standard input or die.img could not be read; is there a die.img in this folder?",
-    6: "standard output or die.new could not be written; die.new may be cut short",
-    7: "there was no memory, or a word is no UTF-8",
+    6: "standard output or die.new could not be written; die.new is as before",
+    7: "there was no memory",
     70: "./rssd could not build the program; build/log says why",
 }
 
@@ -55,6 +55,8 @@ def words_fault(words):
     """Why the program answers `bad words`."""
     if not words:
         return f"there is no command: {', '.join(COMMANDS)}"
+    if any("\udc80" <= letter <= "\udcff" for word in words for letter in word):
+        return "a word is no UTF-8"
     command, *rest = words
     if command in TO_COME:
         return f"the command `{command}` is not written yet"

@@ -3,7 +3,7 @@ from dataclasses import dataclass
 from typing import Optional
 
 import codes
-from formats import GREATEST_SEQ, HEADER_BYTES, SLOT_BYTES, SOUND_SEQS, Header, Refused, charged_cells, lies_below_a_header, read_head, read_header
+from formats import GREATEST_SEQ, HEAD_BYTES, HEADER_BYTES, SLOT_BYTES, SOUND_SEQS, Header, Refused, charged_cells, lies_below_a_header, read_head, read_header
 
 
 @dataclass(frozen=True)
@@ -40,7 +40,7 @@ class Image:
     def of_cells(cls, head, cells):
         """The image of a head and the bytes of its pages."""
         image = cls.__new__(cls)
-        image.version, image.head, image.begin, image.size = 2, head, 32, 32 + head.die_bytes
+        image.version, image.head, image.begin, image.size = 2, head, HEAD_BYTES, HEAD_BYTES + head.die_bytes
         image._take(cells)
         return image
 

@@ -5,8 +5,7 @@ import tempfile
 from dataclasses import dataclass
 from typing import Optional
 
-from formats import MOST_SCRIPT_BYTES, Scheme
-from image import load
+from formats import HEAD_BYTES, MOST_SCRIPT_BYTES, Scheme
 from program import Kept, play
 from workload import lines_of
 
@@ -76,15 +75,21 @@ def marks_of(script, replies):
 class Wear:
     """Erases of each block, as two images show them: a block in which a cell fell was erased."""
 
-    def __init__(self, image):
-        self.erases, self.before = [0] * image.head.blocks, image
+    def __init__(self, case, path):
+        self.erases, self.block_bytes = [0] * case.blocks, case.pages * case.scheme.whole_page
+        self.before = self.blocks(path)
 
-    def look(self, image):
-        for block in range(len(self.erases)):
-            pages = image.pages_of(block)
-            old, new = (int.from_bytes(b"".join(seen.pages[pages[0] : pages[-1] + 1]), "little") for seen in (self.before, image))
-            self.erases[block] += bool(old & ~new)
-        self.before = image
+    def blocks(self, path):
+        """The cells of each block, as a number."""
+        with open(path, "rb") as file:
+            file.seek(HEAD_BYTES)
+            return [int.from_bytes(file.read(self.block_bytes), "little") for _ in self.erases]
+
+    def look(self, path):
+        now = self.blocks(path)
+        for block, (old, new) in enumerate(zip(self.before, now)):
+            self.erases[block] += old & ~new != 0
+        self.before = now
 
 
 def run_in_one(case, script):
@@ -98,12 +103,12 @@ def run_in_parts(case, scripts):
         die = Kept(folder, case.words)
         for script in scripts:
             if case.wear and marks and wear is None:
-                wear = Wear(load(die.image))
+                wear = Wear(case, die.image)
             replies = die.run(b"".join(script) + b"stat\n")
             marks += [[a + b for a, b in zip(base, mark)] for mark in marks_of(script, replies)]
             base = [a + b for a, b in zip(base, counts(replies[-1]))]
             if wear:
-                wear.look(load(die.image))
+                wear.look(die.image)
     return marks, wear
 
 

@@ -15,7 +15,7 @@ use Rattle.rssd_run.specs.ImageRuns.{IsFull}
 use Rattle.rssd_run.specs.Run.{pieces_of}
 use Rattle.rssd_run.specs.MakeRuns.{SaysMake}
 use Rattle.rssd_run.proofs.CallStops.{stopped, unflushed, never_refused}
-use Rattle.rssd_run.specs.Top.{SaysOf, SaysReplay, SaysRun, SaysFormat, SaysUpgrade, StopsReplay, IsRunCutOff, IsRefused, IsBadImage, IsNoImage, HasScript, HasImage, HasOldImage, NoneFailed, IsComplete}
+use Rattle.rssd_run.specs.Top.{SaysOf, SaysReplay, SaysRun, SaysFormat, SaysUpgrade, IsRunCutOff, IsRefused, IsBadImage, IsNoImage, HasScript, HasImage, HasOldImage, NoneFailed, IsComplete}
 
 replay_stopped : (head : ImageHead) (call : Call) → SaysReplay head call.script call.out WriteFault → WriteFailed call.out
 replay_stopped head call says = elim says.stops [

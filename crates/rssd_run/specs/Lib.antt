@@ -3,6 +3,7 @@ pub mod ArrayWithCuts
 pub mod View
 pub mod Placing
 pub mod Armed
+pub mod Leaves
 pub mod Moves
 pub mod Step
 pub mod Run
@@ -24,3 +25,4 @@ pub mod Headline
 pub mod Workloads
 pub mod MakeRuns
 pub mod Upgrades
+pub mod Reuse
