@@ -53,18 +53,16 @@ fn make_with<C: Scheme + Drop, F: PowerDevice<MemDie, C>, O: Sink>(
 {
     let mut session: Session<MemDie, C, F> = start(alloc, head, scheme, die)?;
     let sector_bytes = head.scheme.sector_bytes();
-    let Ok(()) = step_workload(
-        alloc,
-        &mut session,
-        seeded,
-        head.sectors,
-        sector_bytes,
-    ) else {
+    let Ok(()) = step_workload(alloc, &mut session, seeded, head.sectors, sector_bytes) else {
         return Err(RunError::OutOfMemory);
     };
     let stat = session.step(alloc, &Line::Stat);
     let held = read_held(alloc, &mut session, head.sectors);
-    match tell(out, print_reply(&stat).as_slice(), held_text(held).as_slice()) {
+    match tell(
+        out,
+        print_reply(&stat).as_slice(),
+        held_text(held).as_slice(),
+    ) {
         Ok(()) => Ok(()),
         Err(_) => Err(RunError::Sink),
     }
@@ -129,12 +127,7 @@ pub fn make_run<O: Sink>(
 }
 
 /// Answers `make`.
-pub fn answer_make<O: Sink>(
-    alloc: Global,
-    head: &ImageHead,
-    seeded: Seeded,
-    out: &mut O,
-) -> Status
+pub fn answer_make<O: Sink>(alloc: Global, head: &ImageHead, seeded: Seeded, out: &mut O) -> Status
     requires { is_within_limits head.now ≡ true }
     ensures { SaysMake head.now seeded.seed seeded.count (output (O.log out.old) (O.log out.new)) result }
 {

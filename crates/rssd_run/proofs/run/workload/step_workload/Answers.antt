@@ -23,7 +23,8 @@ loop-preserved g c = λ d before calm.
     let so = c.loop.invariant d before calm in
     let line = c.in_ok-line.line in
     let plain : IsPlain line = subst IsPlain (sym c.in_ok-line.ensures.line) (next_line_plain c.args.sectors c.args.sector_bytes c.loop.state) in
-    let s = calm_step d line c.step-reply.result (g.S.Stepping.session c.loop.session) (g.S.Stepping.session c.step-reply.new.self) so.0 so.1 plain (c.step-reply.ensures.numbers d so.1.numbers) (c.step-reply.ensures.step d so.1.numbers) in (
+    let s = calm_step d line c.step-reply.result (g.S.Stepping.session c.loop.session) (g.S.Stepping.session c.step-reply.new.self) so.0 so.1 plain
+    (c.step-reply.ensures.numbers d so.1.numbers) (c.step-reply.ensures.step d so.1.numbers) in (
       s.after,
       s.calm,
       (
