@@ -1,0 +1,14 @@
+-- What is passed from the end are zeros, and the byte before them is none.
+use Rattle.std.proofs.Common.{arith, sym, ◌∙◌}
+use Rattle.image_audit.proofs.Zeros.{zeros_step, zeros_end}
+use Rattle.image_audit.proofs.row.length_without_zeros.Goals as goal
+
+pub loop-count-preserved : goal.loop-count-preserved
+loop-count-preserved c = record {
+  within = omega arith;
+  zeros = sym (zeros_step c.args.bytes.now c.loop-count.count (omega arith) (omega arith) c.if-bytes-count-eq0.true) ∙ c.loop-count.invariant.zeros;
+}
+
+pub returns-else-bytes-count-eq0-clause-bytes : goal.returns-else-bytes-count-eq0-clause-bytes
+returns-else-bytes-count-eq0-clause-bytes c =
+    zeros_end c.args.bytes.now c.loop-count.count c.loop-count.invariant.within (λ some. c.if-bytes-count-eq0.false) ∙ c.loop-count.invariant.zeros
