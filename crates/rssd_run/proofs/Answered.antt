@@ -3,11 +3,13 @@ use Rattle.std.proofs.Common.{◌≡◌, inl, inr, ℕ, ◌^◌, ◌<◌, List, 
 use Rattle.cell_die.specs.Calls.{IsQuiet, PassedWithin}
 use Rattle.cell_die.proofs.Quiet.{quiet_stays, quiet_stays_within, quiet_change, quiet_read}
 use Rattle.page_codec.specs.Sound.{IsSound}
-use Rattle.rssd_run.specs.Step.{AlwaysAnswered, TrueWhileOn}
+use Rattle.rssd_run.specs.Step.{AlwaysAnswered, TrueWhileOn, KeepsDie}
 use Rattle.rssd_run.specs.View.{View, Event, StandsFor, NoFailure}
 use Rattle.rssd_run.specs.Placing.{PlacedExactly}
-use Rattle.rssd_run.proofs.Came.{none_came}
-use Rattle.rssd_run.proofs.Parts.{keeps_same}
+use Rattle.rssd_core.specs.Failures.{Tells}
+use Rattle.rssd_run.proofs.Came.{none_came, went_tells, read_failed_tells, change_failed_tells, passed_went}
+use Rattle.rssd_run.proofs.CommandSteps.{bounded}
+use Rattle.rssd_run.proofs.Parts.{keeps_same, keeps_none}
 use Rattle.rssd_run.proofs.Still.{lowers_none}
 use Rattle.rssd_script.specs.declared.lines.Line.{Line}
 use Rattle.rssd_script.specs.declared.lines.Line.TheVariants.{Write, Read, Trim, Idle}
@@ -17,7 +19,7 @@ use Rattle.rssd_core.specs.declared.device.Placed.{Placed}
 use Rattle.rssd_core.specs.declared.device.Placed.TheVariants.{First as PutFirst, Second as PutSecond, Declined as PutDeclined}
 use Rattle.rssd_core.specs.SectorArray.{filled_up, written, trimmed}
 use Rattle.rssd_core.specs.DeviceValue.{Numbers, DeviceValue, rows_of}
-use Rattle.rssd_core.specs.Outcomes.{Faulted, ReadFault, ChangeFault, TrueWhileRunning}
+use Rattle.rssd_core.specs.Outcomes.{Holds, Faulted, ReadFault, ChangeFault, TrueWhileRunning}
 use Rattle.rssd_core.specs.Within.{WithinWrite, WithinTrim, WithinIdle}
 use Rattle.rssd_run.specs.ArrayWithCuts.{ArrayState, On, Off}
 use Rattle.rssd_run.specs.Held.{Tallies, on, off, reply_of}
@@ -130,6 +132,7 @@ stays_played d v line reply is stands book small_first small_second small_declin
       tallies = record { first = omega (arith, s.tallies.0, small_first); second = omega (arith, s.tallies.1, small_second); declined = omega (arith, s.tallies.2, small_declined) };
       true_book = book;
       moves = played_book d v v line reply is s.moves;
+      leaves = s.leaves;
     }
 
 module _ (d : Numbers) (old new : DeviceValue) (running : old.stopped ≡ false) where
@@ -253,3 +256,51 @@ module _ (d : Numbers) (old new : DeviceValue) where
   answered_quiet (Trim sector) reply a = trim_quiet sector reply a
   answered_quiet (Idle n) reply a = idle_quiet n reply a
   answered_quiet line reply a = absurd a
+
+-- ---- what becomes of the die, whatever its cells
+
+module _ (d : Numbers) (old new : DeviceValue) where
+  so : Holds d old new → (Tells old.view.die → Tells new.view.die) → KeepsDie d old.view.die new.view.die
+  so holds tells = record { shape = holds.kept.shape; tells = tells; never_falls = holds.kept.never_falls; no_pad = holds.no_pad; sound = holds.sound }
+
+  same_kept : new ≡ old → KeepsDie d old.view.die new.view.die
+  same_kept same = subst (λ (device : DeviceValue). KeepsDie d old.view.die device.view.die) (sym same) (keeps_none d old.view.die)
+
+  fault_tells : {Within : ℕ → ℕ → Type 0} {done : List (List ℕ)} → Faulted d Within done old new → Tells old.view.die → Tells new.view.die
+  fault_tells (inl f) = read_failed_tells old.view.die new.view.die f.failed
+  fault_tells (inr f) = change_failed_tells old.view.die new.view.die f.failed
+
+  write_kept : (sector : ℕ) (bytes : List ℕ) (reply : Reply) → AnsweredWrite d sector bytes reply old new → KeepsDie d old.view.die new.view.die
+  write_kept sector bytes First a = so a.holds (went_tells old.view.die new.view.die a.wrote.calls)
+  write_kept sector bytes Second a = so a.holds (went_tells old.view.die new.view.die a.wrote.calls)
+  write_kept sector bytes Declined a = so a.holds (went_tells old.view.die new.view.die a.wrote.calls)
+  write_kept sector bytes Fault a = so a.holds (fault_tells a.fault.fault)
+  write_kept sector bytes Range (far, same) = same_kept same
+  write_kept sector bytes Long (near, many, same) = same_kept same
+  write_kept sector bytes Spent (near, fits, spent, same) = same_kept same
+  write_kept sector bytes reply a = absurd a
+
+  read_kept : (sector : ℕ) (reply : Reply) → AnsweredRead d sector reply old new → KeepsDie d old.view.die new.view.die
+  read_kept sector (Bytes bytes) a = so a.holds (went_tells old.view.die new.view.die (passed_went {Bounded = ⊥} a.calls))
+  read_kept sector Fault a = so a.holds (read_failed_tells old.view.die new.view.die a.failed)
+  read_kept sector Range (far, same) = same_kept same
+  read_kept sector reply a = absurd a
+
+  trim_kept : (sector : ℕ) (reply : Reply) → AnsweredTrim d sector reply old new → KeepsDie d old.view.die new.view.die
+  trim_kept sector Done a = so a.holds (went_tells old.view.die new.view.die a.trimmed.calls)
+  trim_kept sector Fault a = so a.holds (fault_tells a.fault.fault)
+  trim_kept sector Range (far, same) = same_kept same
+  trim_kept sector Spent (near, spent, same) = same_kept same
+  trim_kept sector reply a = absurd a
+
+  idle_kept : (n : ℕ) (reply : Reply) → AnsweredIdle d n reply old new → KeepsDie d old.view.die new.view.die
+  idle_kept n (Moves k) a = so a.0 (went_tells old.view.die new.view.die (bounded a.1.calls))
+  idle_kept n Fault a = so a.0 (fault_tells a.1.fault)
+  idle_kept n reply a = absurd a
+
+  pub answered_keeps : (line : Line) (reply : Reply) → Answered d line reply old new → KeepsDie d old.view.die new.view.die
+  answered_keeps (Write sector bytes) reply a = write_kept sector bytes reply a
+  answered_keeps (Read sector) reply a = read_kept sector reply a
+  answered_keeps (Trim sector) reply a = trim_kept sector reply a
+  answered_keeps (Idle n) reply a = idle_kept n reply a
+  answered_keeps line reply a = absurd a

@@ -1,5 +1,5 @@
 -- A run on a blank die is a replay: no block has a live record there, all sectors are zeros, and its cells are sound.
-use Rattle.std.proofs.Common.{◌≡◌, inl, ℕ, ◌+◌, ◌*◌, ◌<◌, true, List, replicate, Option, Some, sym, ap, ◌∙◌, arith, subst}
+use Rattle.std.proofs.Common.{◌≡◌, inl, ℕ, ◌+◌, ◌*◌, ◌<◌, true, List, replicate, Some, sym, ap, ◌∙◌, arith, subst}
 use Rattle.cell_die.specs.DieState.{DieState, IsShaped, page_count as die_pages}
 use Rattle.mem_die.specs.MemState.{IsNew}
 use Rattle.die_image.specs.declared.head.ImageHead.{ImageHead}

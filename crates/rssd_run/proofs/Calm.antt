@@ -1,5 +1,5 @@
 -- Where nothing is armed and no line arms anything, no reply is `fault` or `no spare`, and the array stays on while memory lasts.
-use Rattle.std.proofs.Common.{◌≡◌, ◌⊎◌, inl, inr, ℕ, ◌<◌, false, All, IsTrue, List, [], ◌∷◌, length, slice_index_or, Option, refl, sym, ap, ◌∙◌, arith, subst}
+use Rattle.std.proofs.Common.{◌≡◌, ◌⊎◌, inl, inr, ℕ, ◌<◌, false, All, IsTrue, List, [], ◌∷◌, length, slice_index_or, refl, sym, ap, ◌∙◌, arith, subst}
 use Rattle.std.proofs.lemmas.Bool.{cases_lt, false≢true}
 use Rattle.std.proofs.lemmas.List.{get_or_past}
 use Rattle.rssd_core.specs.SectorArray.{written, trimmed}

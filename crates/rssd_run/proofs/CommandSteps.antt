@@ -1,11 +1,11 @@
 -- Trims and idle calls: what a device's call leaves makes a step.
-use Rattle.std.proofs.Common.{inl, inr, ℕ, ◌<◌, refl, arith, ap}
+use Rattle.std.proofs.Common.{inl, inr, ℕ, ◌<◌, true, false, refl, arith, ap}
 use Rattle.rssd_script.specs.declared.lines.Line.TheVariants.{Trim, Idle}
 use Rattle.rssd_script.specs.declared.replies.Reply.TheVariants.{Done, Moves, Fault}
 use Rattle.rssd_core.specs.SectorArray.{trimmed}
 use Rattle.rssd_core.specs.DeviceValue.{Numbers, DeviceView, DeviceValue, rows_of}
 use Rattle.rssd_core.specs.Failures.{TellsPower}
-use Rattle.rssd_core.specs.Within.{WithinTrim, WithinIdle, Went}
+use Rattle.rssd_core.specs.Within.{WithinTrim, WithinIdle, Went, holds_bytes, record_of}
 use Rattle.rssd_core.specs.Outcomes.{Holds, Trimmed, TrimFault, Idled, IdleFault, ReadFault, ChangeFault}
 use Rattle.rssd_run.specs.ArrayWithCuts.{On, Off}
 use Rattle.rssd_run.specs.View.{Event, NoFailure}
@@ -16,7 +16,7 @@ use Rattle.rssd_core.specs.IdleRule.{IdleMoves, IdleUnfinished}
 use Rattle.cell_die.specs.DieState.{DieState}
 use Rattle.cell_die.specs.Calls.{PassedWithin}
 use Rattle.rssd_run.proofs.WriteSteps.{event_of, must_not, calm_rows}
-use Rattle.rssd_run.proofs.Parts.{not_refused, no_fault, keeps, plus_book, plus_seq}
+use Rattle.rssd_run.proofs.Parts.{not_refused, no_fault, keeps, plus_book, plus_seq, trim_plus_leaves, trim_book_so}
 
 trim_plus : (d : Numbers) (base : Tallies) (old : DeviceView) (sector changes reads : ℕ) → WithinTrim d old sector changes reads → WithinTrim d (plus base old) sector changes reads
 trim_plus d base old sector changes reads w = record { changes_at_most = w.changes_at_most; reads_at_most = w.reads_at_most }
@@ -52,8 +52,8 @@ unfinished_plus d base old new n m = record {
   by_rule = m.by_rule;
   one_more = m.one_more;
   unfinished = elim m.unfinished [
-    | inl unread ↦ inl (record { cells = unread.cells; seq = unread.seq; recycled = unread.recycled; failed = unread.failed })
-    | inr broken ↦ inr (record { rows = broken.rows; seq = broken.seq; book = broken.book; failed = broken.failed })
+    | inl unread ↦ inl (record { cells = unread.cells; seq = unread.seq; recycled = unread.recycled; victim = unread.victim; is_victim = unread.is_victim; failed = unread.failed; by_then = unread.by_then })
+    | inr broken ↦ inr (record { rows = broken.rows; seq = broken.seq; book = broken.book; victim = broken.victim; is_victim = broken.is_victim; first = broken.first; is_first = broken.is_first; failed = broken.failed })
   ];
 }
 
@@ -86,6 +86,7 @@ trimmed_step d base old new sector in_range power holds w =
       moves = (record { book = plus_book d base old.view new.view (λ rise at came. at power came) w.book; seq = plus_seq d base old.view new.view w.seq }, tt);
       armed = record { arms = tt; lowers = λ a f. lowers; fault = λ h. cc };
       power = λ on tells. went_power old.view.die new.view.die power w.calls;
+      leaves = trim_plus_leaves d base old.view new.view sector (holds_bytes (record_of d old.view sector)) w.leaves;
     }
 
 pub trim_read_fault : (d : Numbers) (base : Tallies) (old new : DeviceValue) (sector : ℕ) → sector < d.geometry.sectors → TellsPower old.view.die → Holds d old new
@@ -115,7 +116,7 @@ trim_read_fault d base old new sector in_range power holds w f =
         tallies = record { first = omega (arith, w.counts.first); second = omega (arith, w.counts.second); declined = omega (arith, w.counts.declined) };
       };
       true_book = λ h. holds.true_book f.running;
-      moves = (record { book = plus_book d base old.view new.view (λ rise at came. at power came) w.book; seq = plus_seq d base old.view new.view w.seq }, tt);
+      moves = (record { book = plus_book d base old.view new.view (λ rise at came. at power came) (trim_book_so d old new sector false f.running w); seq = plus_seq d base old.view new.view w.seq }, tt);
       armed = record {
         arms = tt;
         lowers = λ a not. absurd (not refl);
@@ -128,6 +129,7 @@ trim_read_fault d base old new sector in_range power holds w f =
         };
       };
       power = λ on tells. came.power;
+      leaves = w.erased;
     }
 
 pub trim_change_fault : (d : Numbers) (base : Tallies) (old new : DeviceValue) (sector : ℕ) → sector < d.geometry.sectors → TellsPower old.view.die → Calm d old.view.die → Holds d old new
@@ -158,7 +160,7 @@ trim_change_fault d base old new sector in_range power calm holds w f =
         tallies = record { first = omega (arith, w.counts.first); second = omega (arith, w.counts.second); declined = omega (arith, w.counts.declined) };
       };
       true_book = λ on. absurd on;
-      moves = (record { book = plus_book d base old.view new.view (λ rise at came. at power came) w.book; seq = plus_seq d base old.view new.view w.seq }, tt);
+      moves = (record { book = plus_book d base old.view new.view (λ rise at came. at power came) (trim_book_so d old new sector true f.stopped w); seq = plus_seq d base old.view new.view w.seq }, tt);
       armed = record {
         arms = tt;
         lowers = λ a not. absurd (not refl);
@@ -171,6 +173,7 @@ trim_change_fault d base old new sector in_range power calm holds w f =
         };
       };
       power = λ on. absurd on;
+      leaves = w.erased;
     }
 
 pub idled_step : (d : Numbers) (base : Tallies) (old new : DeviceValue) (n k : ℕ) → TellsPower old.view.die → Holds d old new
@@ -199,6 +202,7 @@ idled_step d base old new n k power holds w =
       moves = (record { book = plus_book d base old.view new.view (λ rise at came. at power came) w.book; seq = plus_seq d base old.view new.view w.seq }, moves_plus d base old.view new.view k w.moves);
       armed = record { arms = tt; lowers = λ a f. lowers; fault = λ h. cc };
       power = λ on tells. went_power old.view.die new.view.die power (bounded w.calls);
+      leaves = w.erases;
     }
 
 pub idle_read_fault : (d : Numbers) (base : Tallies) (old new : DeviceValue) (n : ℕ) → TellsPower old.view.die → Holds d old new
@@ -241,6 +245,7 @@ idle_read_fault d base old new n power holds w f =
         };
       };
       power = λ on tells. came.power;
+      leaves = w.erases;
     }
 
 pub idle_change_fault : (d : Numbers) (base : Tallies) (old new : DeviceValue) (n : ℕ) → TellsPower old.view.die → Calm d old.view.die → Holds d old new
@@ -284,4 +289,5 @@ idle_change_fault d base old new n power calm holds w f =
         };
       };
       power = λ on. absurd on;
+      leaves = w.erases;
     }

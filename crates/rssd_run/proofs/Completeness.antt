@@ -13,7 +13,7 @@ use Rattle.rssd_run.specs.declared.status.Status.TheVariants.{Done, BadWords, Ba
 use Rattle.rssd_run.specs.Statuses.{Call, taken, WriteFailed}
 use Rattle.rssd_run.specs.ImageRuns.{IsFull}
 use Rattle.rssd_run.specs.Run.{pieces_of}
-use Rattle.rssd_run.specs.Top.{SaysOf, SaysReplay, SaysRun, SaysFormat, SaysUpgrade, StopsReplay, IsRunCutOff, IsRefused, IsBadImage, IsNoImage, HasScript, HasImage, HasOldImage, NoneFailed, IsComplete}
+use Rattle.rssd_run.specs.Top.{SaysOf, SaysReplay, SaysRun, SaysFormat, SaysUpgrade, IsRunCutOff, IsRefused, IsBadImage, IsNoImage, HasScript, HasImage, HasOldImage, NoneFailed, IsComplete}
 
 -- ---- a sink that took a part failed
 

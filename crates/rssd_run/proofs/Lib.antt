@@ -23,6 +23,7 @@ pub mod DieStart
 pub mod BlankStart
 pub mod Calm
 pub mod Headline
+pub mod SavedErases
 pub mod Spending
 pub mod ImageRuns
 pub mod LeftCells

@@ -49,6 +49,7 @@ cut_step d base old n torn some running power book =
       moves = (record { book = same_book d (plus base old.view) (plus base new.view) refl refl (omega arith) (λ c. tt) refl refl; seq = same_seq d (plus base old.view) (plus base new.view) refl refl }, tt);
       armed = record { arms = refl; lowers = λ not. absurd (not tt); fault = λ h. cc };
       power = λ on tells. still_powered (with_cut n (form_of_word torn)) (λ failures. refl) old.view.die.failures power;
+      leaves = refl;
     }
 
 pub fail_read_step : (d : Numbers) (base : Tallies) (old : DeviceValue) (n : ℕ) → 1 ≤ n → old.stopped ≡ false → TellsPower old.view.die → TrueWhileRunning d old
@@ -78,6 +79,7 @@ fail_read_step d base old n some running power book =
       moves = (record { book = same_book d (plus base old.view) (plus base new.view) refl refl (omega arith) (λ c. tt) refl refl; seq = same_seq d (plus base old.view) (plus base new.view) refl refl }, tt);
       armed = record { arms = refl; lowers = λ not. absurd (not tt); fault = λ h. cc };
       power = λ on tells. still_powered (with_read_failure n) (λ failures. refl) old.view.die.failures power;
+      leaves = refl;
     }
 
 pub read_step : (d : Numbers) (base : Tallies) (old : DeviceValue) (die : DieState) (sector : ℕ) (bytes : List ℕ) → sector < d.geometry.sectors → old.stopped ≡ false
@@ -111,6 +113,7 @@ read_step d base old die sector bytes in_range running power book shape same pas
       moves = (record { book = same_book d (plus base old.view) (plus base new.view) refl refl (omega arith) (λ c. tt) refl refl; seq = same_seq d (plus base old.view) (plus base new.view) refl same.cells }, tt);
       armed = record { arms = tt; lowers = λ a f. lowers; fault = λ h. cc };
       power = λ on tells. went_power old.view.die die power went;
+      leaves = same.erases;
     }
 
 pub read_fault_step : (d : Numbers) (base : Tallies) (old : DeviceValue) (die : DieState) (sector : ℕ) → sector < d.geometry.sectors → old.stopped ≡ false
@@ -161,4 +164,5 @@ read_fault_step d base old die sector in_range running power book shape same fai
         };
       };
       power = λ on tells. came.power;
+      leaves = same.erases;
     }

@@ -1,5 +1,5 @@
 -- What a line on a device leaves is a played step, on a die that need not tell its power.
-use Rattle.std.proofs.Common.{◌≡◌, inl, inr, ℕ, List, false, refl, arith, sym, ap, ◌∙◌}
+use Rattle.std.proofs.Common.{◌≡◌, inl, inr, ℕ, List, true, false, refl, arith, sym, ap, ◌∙◌}
 use Rattle.std.proofs.lemmas.Option.{none-some}
 use Rattle.cell_die.specs.Counts.{count_sum}
 use Rattle.cell_die.specs.Changes.{SameCells}
@@ -14,7 +14,7 @@ use Rattle.rssd_core.specs.BookChanges.{Change}
 use Rattle.rssd_core.specs.DeviceValue.{Numbers, DeviceView, DeviceValue, rows_of}
 use Rattle.rssd_core.specs.Moves.{MovesBook}
 use Rattle.rssd_core.specs.Outcomes.{ReadFault, ChangeFault}
-use Rattle.rssd_core.specs.Within.{WithinWrite, WithinTrim, WithinIdle}
+use Rattle.rssd_core.specs.Within.{WithinWrite, WithinTrim, WithinIdle, holds_bytes, record_of}
 use Rattle.rssd_run.specs.ArrayWithCuts.{On, Off}
 use Rattle.rssd_run.specs.View.{View, Event}
 use Rattle.rssd_run.specs.Held.{Tallies, plus, on, off}
@@ -24,7 +24,7 @@ use Rattle.rssd_run.specs.Step.{IsStep}
 use Rattle.rssd_run.specs.Played.{IsPlayed, WroteSo, WriteFailed, ReadSo, ReadWithFault, TrimmedSo, TrimFailed, PlacedSo, PlayedBook, IsPlayedStep}
 use Rattle.rssd_core.specs.Outcomes.{Holds, Idled, IdleFault}
 use Rattle.rssd_run.proofs.Came.{change_rose, read_rose, passed_went, went_tells, change_failed_tells, read_failed_tells}
-use Rattle.rssd_run.proofs.Parts.{not_refused, keeps, plus_book, plus_seq}
+use Rattle.rssd_run.proofs.Parts.{not_refused, keeps, plus_book, plus_seq, gets_plus, over_draws_plus, erased_plus, trim_plus_leaves, write_book_so, trim_book_so}
 use Rattle.rssd_run.proofs.Still.{keeps_cells, same_book, same_seq}
 use Rattle.rssd_run.proofs.CommandSteps.{moves_plus, unfinished_plus, bounded}
 use Rattle.rssd_run.proofs.WriteSteps.{event_of, sector_in, bytes_in, must_not, offered_both, over_plus, neither}
@@ -67,6 +67,7 @@ step_played d before after line reply is s = record {
   tallies = s.answers.tallies;
   true_book = s.true_book;
   moves = played_book d before after line reply is s.moves;
+  leaves = s.leaves;
 }
 
 -- ---- writes
@@ -113,6 +114,7 @@ played_first d base old new sector bytes a =
       tallies = record { first = omega (arith, a.wrote.counts.first); second = omega (arith, a.wrote.counts.second); declined = omega (arith, a.wrote.counts.declined) };
       true_book = λ h. a.holds.true_book a.wrote.running;
       moves = record { book = plus_book d base old.view new.view (λ rise at. tt) a.wrote.book; seq = plus_seq d base old.view new.view a.wrote.seq; records = tt };
+      leaves = gets_plus base old.view new.view a.wrote.draws;
     }
 
 pub played_second : (d : Numbers) (base : Tallies) (old new : DeviceValue) (sector : ℕ) (bytes : List ℕ) → WroteSo d sector bytes PutSecond old new
@@ -140,6 +142,7 @@ played_second d base old new sector bytes a =
       tallies = record { first = omega (arith, a.wrote.counts.first); second = omega (arith, a.wrote.counts.second); declined = omega (arith, a.wrote.counts.declined) };
       true_book = λ h. a.holds.true_book a.wrote.running;
       moves = record { book = plus_book d base old.view new.view (λ rise at. tt) a.wrote.book; seq = plus_seq d base old.view new.view a.wrote.seq; records = tt };
+      leaves = over_draws_plus base old.view new.view a.wrote.draws;
     }
 
 pub played_declined : (d : Numbers) (base : Tallies) (old new : DeviceValue) (sector : ℕ) (bytes : List ℕ) → WroteSo d sector bytes PutDeclined old new
@@ -167,6 +170,7 @@ played_declined d base old new sector bytes a =
       tallies = record { first = omega (arith, a.wrote.counts.first); second = omega (arith, a.wrote.counts.second); declined = omega (arith, a.wrote.counts.declined) };
       true_book = λ h. a.holds.true_book a.wrote.running;
       moves = record { book = plus_book d base old.view new.view (λ rise at. tt) a.wrote.book; seq = plus_seq d base old.view new.view a.wrote.seq; records = tt };
+      leaves = gets_plus base old.view new.view a.wrote.draws;
     }
 
 pub played_write_read_fault : (d : Numbers) (base : Tallies) (old new : DeviceValue) (sector : ℕ) (bytes : List ℕ) → WriteFailed d sector bytes old new → ReadFault d (WithinWrite d old.view (filled_up d.geometry.sector_bytes bytes)) old new
@@ -186,7 +190,8 @@ played_write_read_fault d base old new sector bytes a f =
       stays = must_not;
       tallies = record { first = omega (arith, a.fault.counts.first); second = omega (arith, a.fault.counts.second); declined = omega (arith, a.fault.counts.declined) };
       true_book = λ h. a.holds.true_book f.running;
-      moves = record { book = plus_book d base old.view new.view (λ rise at. tt) a.fault.book; seq = plus_seq d base old.view new.view a.fault.seq; records = tt };
+      moves = record { book = plus_book d base old.view new.view (λ rise at. tt) (write_book_so d old new sector (filled_up d.geometry.sector_bytes bytes) false f.running a.fault); seq = plus_seq d base old.view new.view a.fault.seq; records = tt };
+      leaves = erased_plus d base old.view new.view (filled_up d.geometry.sector_bytes bytes) a.fault.erased;
     }
 
 pub played_write_change_fault : (d : Numbers) (base : Tallies) (old new : DeviceValue) (sector : ℕ) (bytes : List ℕ) → WriteFailed d sector bytes old new → IsSound d.geometry old.view.die.cells → ChangeFault d (WithinWrite d old.view (filled_up d.geometry.sector_bytes bytes)) (written d.geometry.sector_bytes (rows_of d old.view) sector bytes) old new
@@ -206,7 +211,8 @@ played_write_change_fault d base old new sector bytes a sound f =
       stays = must_not;
       tallies = record { first = omega (arith, a.fault.counts.first); second = omega (arith, a.fault.counts.second); declined = omega (arith, a.fault.counts.declined) };
       true_book = λ on. absurd on;
-      moves = record { book = plus_book d base old.view new.view (λ rise at. tt) a.fault.book; seq = plus_seq d base old.view new.view a.fault.seq; records = tt };
+      moves = record { book = plus_book d base old.view new.view (λ rise at. tt) (write_book_so d old new sector (filled_up d.geometry.sector_bytes bytes) true f.stopped a.fault); seq = plus_seq d base old.view new.view a.fault.seq; records = tt };
+      leaves = erased_plus d base old.view new.view (filled_up d.geometry.sector_bytes bytes) a.fault.erased;
     }
 
 -- ---- trims
@@ -229,6 +235,7 @@ played_trim d base old new sector a =
       tallies = record { first = omega (arith, a.trimmed.counts.first); second = omega (arith, a.trimmed.counts.second); declined = omega (arith, a.trimmed.counts.declined) };
       true_book = λ h. a.holds.true_book a.trimmed.running;
       moves = record { book = plus_book d base old.view new.view (λ rise at. tt) a.trimmed.book; seq = plus_seq d base old.view new.view a.trimmed.seq; records = tt };
+      leaves = trim_plus_leaves d base old.view new.view sector (holds_bytes (record_of d old.view sector)) a.trimmed.leaves;
     }
 
 pub played_trim_read_fault : (d : Numbers) (base : Tallies) (old new : DeviceValue) (sector : ℕ) → TrimFailed d sector old new → ReadFault d (WithinTrim d old.view sector) old new
@@ -248,7 +255,8 @@ played_trim_read_fault d base old new sector a f =
       stays = must_not;
       tallies = record { first = omega (arith, a.fault.counts.first); second = omega (arith, a.fault.counts.second); declined = omega (arith, a.fault.counts.declined) };
       true_book = λ h. a.holds.true_book f.running;
-      moves = record { book = plus_book d base old.view new.view (λ rise at. tt) a.fault.book; seq = plus_seq d base old.view new.view a.fault.seq; records = tt };
+      moves = record { book = plus_book d base old.view new.view (λ rise at. tt) (trim_book_so d old new sector false f.running a.fault); seq = plus_seq d base old.view new.view a.fault.seq; records = tt };
+      leaves = a.fault.erased;
     }
 
 pub played_trim_change_fault : (d : Numbers) (base : Tallies) (old new : DeviceValue) (sector : ℕ) → TrimFailed d sector old new → IsSound d.geometry old.view.die.cells → ChangeFault d (WithinTrim d old.view sector) (trimmed d.geometry.sector_bytes (rows_of d old.view) sector) old new
@@ -268,7 +276,8 @@ played_trim_change_fault d base old new sector a sound f =
       stays = must_not;
       tallies = record { first = omega (arith, a.fault.counts.first); second = omega (arith, a.fault.counts.second); declined = omega (arith, a.fault.counts.declined) };
       true_book = λ on. absurd on;
-      moves = record { book = plus_book d base old.view new.view (λ rise at. tt) a.fault.book; seq = plus_seq d base old.view new.view a.fault.seq; records = tt };
+      moves = record { book = plus_book d base old.view new.view (λ rise at. tt) (trim_book_so d old new sector true f.stopped a.fault); seq = plus_seq d base old.view new.view a.fault.seq; records = tt };
+      leaves = a.fault.erased;
     }
 
 -- ---- idle calls
@@ -291,6 +300,7 @@ played_idle d base old new n k holds w =
       tallies = record { first = omega (arith, w.counts.first); second = omega (arith, w.counts.second); declined = omega (arith, w.counts.declined) };
       true_book = λ h. holds.true_book w.running;
       moves = record { book = plus_book d base old.view new.view (λ rise at. tt) w.book; seq = plus_seq d base old.view new.view w.seq; records = moves_plus d base old.view new.view k w.moves };
+      leaves = w.erases;
     }
 
 pub played_idle_read_fault : (d : Numbers) (base : Tallies) (old new : DeviceValue) (n : ℕ) → Holds d old new → IdleFault d n old new → ReadFault d (WithinIdle d n old.view new.view) old new
@@ -311,6 +321,7 @@ played_idle_read_fault d base old new n holds w f =
       tallies = record { first = omega (arith, w.counts.first); second = omega (arith, w.counts.second); declined = omega (arith, w.counts.declined) };
       true_book = λ h. holds.true_book f.running;
       moves = record { book = plus_book d base old.view new.view (λ rise at. tt) w.book; seq = plus_seq d base old.view new.view w.seq; records = unfinished_plus d base old.view new.view n w.moves };
+      leaves = w.erases;
     }
 
 pub played_idle_change_fault : (d : Numbers) (base : Tallies) (old new : DeviceValue) (n : ℕ) → Holds d old new → IdleFault d n old new → IsSound d.geometry old.view.die.cells → ChangeFault d (WithinIdle d n old.view new.view) (rows_of d old.view) old new
@@ -331,6 +342,7 @@ played_idle_change_fault d base old new n holds w sound f =
       tallies = record { first = omega (arith, w.counts.first); second = omega (arith, w.counts.second); declined = omega (arith, w.counts.declined) };
       true_book = λ on. absurd on;
       moves = record { book = plus_book d base old.view new.view (λ rise at. tt) w.book; seq = plus_seq d base old.view new.view w.seq; records = unfinished_plus d base old.view new.view n w.moves };
+      leaves = w.erases;
     }
 
 -- ---- reads
@@ -360,6 +372,7 @@ played_read d base old new sector bytes a runs =
         seq = same_seq d (plus base old.view) (plus base new.view) (still (λ v. v.seq)) same.cells;
         records = tt;
       };
+      leaves = same.erases;
     }
 
 pub played_read_fault : (d : Numbers) (base : Tallies) (old new : DeviceValue) (sector : ℕ) → ReadWithFault d sector old new → new.stopped ≡ false
@@ -387,4 +400,5 @@ played_read_fault d base old new sector a runs =
         seq = same_seq d (plus base old.view) (plus base new.view) (still (λ v. v.seq)) same.cells;
         records = tt;
       };
+      leaves = same.erases;
     }

@@ -1,6 +1,6 @@
 -- What a reader has read of what was taken, and what its end says.
-use Rattle.std.proofs.Common.{◌≡◌, ℕ, ◌+◌, ◌-◌, ◌<◌, ◌≤◌, List, [], ◌∷◌, ◌++◌, length, take, refl, sym, ap, ◌∙◌, arith, subst, length-append, length-take-le, append-nil}
-use Rattle.std.specs.Prelude.{OnOk, is_err, Result, Ok, Err, false, true}
+use Rattle.std.proofs.Common.{◌≡◌, ℕ, ◌+◌, ◌-◌, ◌≤◌, List, [], ◌∷◌, ◌++◌, length, take, refl, sym, ap, ◌∙◌, arith, subst, length-append, length-take-le, append-nil}
+use Rattle.std.specs.Prelude.{OnOk, is_err, Result, Ok, Err, false}
 use Rattle.std.proofs.lemmas.List.{take-append-le}
 use Rattle.std.proofs.lemmas.Bool.{false≢true}
 use Rattle.rssd_io.specs.Event.{Event, HasEnded, Adds, moved, failed, bytes_of, failures, since}
@@ -14,7 +14,7 @@ use Rattle.rssd_script.specs.Script.{IsWithinGrammar}
 use Rattle.rssd_script.specs.Scripts.{Reads, Refuses, most_bytes}
 use Rattle.rssd_script.specs.Readers.{HasRead}
 use Rattle.rssd_run.specs.declared.run.script.ReadError.TheVariants.{Fault, Refused}
-use Rattle.rssd_run.specs.ReadScript.{ReadsAll, IsNoScript, RefusesRead, TakesScript, HasReadAll, HasReadSo}
+use Rattle.rssd_run.specs.ReadScript.{ReadsAll, RefusesRead, TakesScript, HasReadAll, HasReadSo}
 use Rattle.rssd_run.specs.Shows.{CanStep}
 
 -- nothing was taken yet

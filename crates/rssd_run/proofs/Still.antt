@@ -12,14 +12,17 @@ use Rattle.rssd_core.specs.Failures.{cut_in, form_in, read_in, cut_of, form_of, 
 use Rattle.rssd_core.specs.Moves.{MovesBook, MovesSeq}
 use Rattle.rssd_run.specs.Step.{KeepsDie}
 
-pub keeps_cells : (d : Numbers) (old new : DeviceView) → new.die.shape ≡ old.die.shape → SameCells old.die new.die → (Tells old.die → Tells new.die) → KeepsDie d old new
-keeps_cells d old new shape same tells = record {
+pub keeps_die : (d : Numbers) (old new : DieState) → new.shape ≡ old.shape → SameCells old new → (Tells old → Tells new) → KeepsDie d old new
+keeps_die d old new shape same tells = record {
   shape = shape;
   tells = tells;
   never_falls = same_cells_never_fall same;
   no_pad = λ h. rw same.cells h;
   sound = λ h. rw same.cells h;
 }
+
+pub keeps_cells : (d : Numbers) (old new : DeviceView) → new.die.shape ≡ old.die.shape → SameCells old.die new.die → (Tells old.die → Tells new.die) → KeepsDie d old.die new.die
+keeps_cells d old new shape same tells = keeps_die d old.die new.die shape same tells
 
 -- no change of the book
 pub same_book : (d : Numbers) (old new : DeviceView) {May : List Change → Type 0} {Rises : List Change → ℕ → Type 0} {AtCut : ℕ → Type 0}

@@ -1,5 +1,5 @@
 -- Writes: what a device's call leaves makes a step.
-use Rattle.std.proofs.Common.{◌≡◌, ◌⊎◌, inl, inr, ℕ, ◌^◌, ◌≤◌, ◌<◌, List, [], length, Option, None, Some, refl, arith, sym, ap, ◌∙◌}
+use Rattle.std.proofs.Common.{◌≡◌, ◌⊎◌, inl, inr, ℕ, ◌^◌, ◌≤◌, ◌<◌, true, false, List, [], length, Option, None, Some, refl, arith, sym, ap, ◌∙◌}
 use Rattle.std.proofs.lemmas.Option.{none-some}
 use Rattle.reuse_pool.specs.declared.unit.ReuseUnit.{ReuseUnit}
 use Rattle.rssd_script.specs.declared.lines.Line.{Line}
@@ -20,7 +20,7 @@ use Rattle.rssd_run.specs.Held.{Tallies, plus, on, off, Calm}
 use Rattle.rssd_run.specs.Placing.{IsTried, PlacedExactly}
 use Rattle.rssd_run.specs.Step.{IsStep}
 use Rattle.rssd_run.proofs.Came.{went_lowers, none_came, ACutCame, change_came, AReadCame, read_came, change_rose, read_rose, went_tells, went_power, change_failed_tells, read_failed_tells}
-use Rattle.rssd_run.proofs.Parts.{not_refused, no_fault, keeps, plus_book, plus_seq}
+use Rattle.rssd_run.proofs.Parts.{not_refused, no_fault, keeps, plus_book, plus_seq, gets_plus, over_draws_plus, erased_plus, write_book_so}
 
 abbrev pub event_of : Line → Reply → View → View → Event
 event_of line reply before after = record { line = line; reply = reply; before = before; after = after }
@@ -102,6 +102,7 @@ wrote_first d base old new sector bytes tried power holds w =
       moves = (record { book = plus_book d base old.view new.view (λ rise at came. at power came) w.book; seq = plus_seq d base old.view new.view w.seq }, tt);
       armed = record { arms = tt; lowers = λ a f. lowers; fault = λ h. cc };
       power = λ on tells. went_power old.view.die new.view.die power w.calls;
+      leaves = gets_plus base old.view new.view w.draws;
     }
 
 pub wrote_second : (d : Numbers) (base : Tallies) (old new : DeviceValue) (sector : ℕ) (bytes : List ℕ) → Tried d old sector bytes → TellsPower old.view.die → Holds d old new
@@ -137,6 +138,7 @@ wrote_second d base old new sector bytes tried power holds w =
       moves = (record { book = plus_book d base old.view new.view (λ rise at came. at power came) w.book; seq = plus_seq d base old.view new.view w.seq }, tt);
       armed = record { arms = tt; lowers = λ a f. lowers; fault = λ h. cc };
       power = λ on tells. went_power old.view.die new.view.die power w.calls;
+      leaves = over_draws_plus base old.view new.view w.draws;
     }
 
 pub wrote_declined : (d : Numbers) (base : Tallies) (old new : DeviceValue) (sector : ℕ) (bytes : List ℕ) → Tried d old sector bytes → TellsPower old.view.die → Holds d old new
@@ -172,6 +174,7 @@ wrote_declined d base old new sector bytes tried power holds w =
       moves = (record { book = plus_book d base old.view new.view (λ rise at came. at power came) w.book; seq = plus_seq d base old.view new.view w.seq }, tt);
       armed = record { arms = tt; lowers = λ a f. lowers; fault = λ h. cc };
       power = λ on tells. went_power old.view.die new.view.die power w.calls;
+      leaves = gets_plus base old.view new.view w.draws;
     }
 
 -- no write is placed where the die failed
@@ -214,7 +217,7 @@ write_read_fault d base old new sector bytes tried power holds w f =
         tallies = record { first = omega (arith, w.counts.first); second = omega (arith, w.counts.second); declined = omega (arith, w.counts.declined) };
       };
       true_book = λ h. holds.true_book f.running;
-      moves = (record { book = plus_book d base old.view new.view (λ rise at came. at power came) w.book; seq = plus_seq d base old.view new.view w.seq }, tt);
+      moves = (record { book = plus_book d base old.view new.view (λ rise at came. at power came) (write_book_so d old new sector (filled_up d.geometry.sector_bytes bytes) false f.running w); seq = plus_seq d base old.view new.view w.seq }, tt);
       armed = record {
         arms = tt;
         lowers = λ a not. absurd (not refl);
@@ -227,6 +230,7 @@ write_read_fault d base old new sector bytes tried power holds w f =
         };
       };
       power = λ on tells. came.power;
+      leaves = erased_plus d base old.view new.view (filled_up d.geometry.sector_bytes bytes) w.erased;
     }
 
 -- what a write that was cut leaves is as before or as it was to be: over sound cells, or never where no cut is armed
@@ -262,7 +266,7 @@ write_change_fault d base old new sector bytes tried power calm holds w f =
         tallies = record { first = omega (arith, w.counts.first); second = omega (arith, w.counts.second); declined = omega (arith, w.counts.declined) };
       };
       true_book = λ on. absurd on;
-      moves = (record { book = plus_book d base old.view new.view (λ rise at came. at power came) w.book; seq = plus_seq d base old.view new.view w.seq }, tt);
+      moves = (record { book = plus_book d base old.view new.view (λ rise at came. at power came) (write_book_so d old new sector (filled_up d.geometry.sector_bytes bytes) true f.stopped w); seq = plus_seq d base old.view new.view w.seq }, tt);
       armed = record {
         arms = tt;
         lowers = λ a not. absurd (not refl);
@@ -275,4 +279,5 @@ write_change_fault d base old new sector bytes tried power calm holds w f =
         };
       };
       power = λ on. absurd on;
+      leaves = erased_plus d base old.view new.view (filled_up d.geometry.sector_bytes bytes) w.erased;
     }

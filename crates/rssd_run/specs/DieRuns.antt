@@ -12,8 +12,9 @@ use Rattle.rssd_script.specs.declared.lines.Line.{Line}
 use Rattle.rssd_run.specs.ArrayWithCuts.{On}
 use Rattle.rssd_run.specs.View.{View}
 use Rattle.rssd_run.specs.Run.{RunOf, RunCutOff, CalmFor}
-use Rattle.rssd_run.specs.Shows.{SessionValue, Shows, HasNumbers}
+use Rattle.rssd_run.specs.Shows.{SessionValue, Shows, HasNumbers, HasDie}
 use Rattle.rssd_run.specs.Heads.{numbers_named}
+use Rattle.rssd_run.specs.Step.{KeepsDie}
 
 -- a die of the head's shape, with power and nothing armed
 pub record IsReady (head : ImageHead) (die : DieState) : Type 0 where
@@ -37,6 +38,9 @@ pub record StartsOn (head : ImageHead) (die : DieState) (session : SessionValue)
   pub start : IsStart head die view
   pub shows : Shows (numbers_named head) session view
   pub numbers : HasNumbers (numbers_named head) session.holding
+  pub mounted : DieState
+  pub has : HasDie mounted session.holding
+  pub keeps : KeepsDie (numbers_named head) die mounted
 
 -- a run of these lines from a view to one with this die, and the texts of its replies were given
 pub record RunsTo (d : Numbers) (before : View) (lines : List Line) (log log_after : List Act) (last : DieState) : Type 0 where
@@ -44,11 +48,12 @@ pub record RunsTo (d : Numbers) (before : View) (lines : List Line) (log log_aft
   pub die : after.device.die ≡ last
   pub run : RunOf d before lines after log log_after
 
--- The lines were run on a die that was mounted first, and this die was left: over sound cells, or where no line is `cut`, that
--- is a run of them.
+-- The lines were run on a die that was mounted first, and this die was left. Whatever the cells, no charge fell between erases, and
+-- no pad cell was charged; over sound cells, or where no line is `cut`, the lines are a run.
 pub record RunsOn (head : ImageHead) (die : DieState) (lines : List Line) (log log_after : List Act) (last : DieState) : Type 0 where
   pub shape : last.shape ≡ shape_of head
   pub grew : Grows log log_after
+  pub keeps : KeepsDie (numbers_named head) die last
   pub before : View
   pub start : IsStart head die before
   pub run : CalmFor (numbers_named head) die lines → RunsTo (numbers_named head) before lines log log_after last

@@ -3,6 +3,7 @@ pub mod ArrayWithCuts
 pub mod View
 pub mod Placing
 pub mod Armed
+pub mod Leaves
 pub mod Moves
 pub mod Step
 pub mod Run
@@ -21,3 +22,4 @@ pub mod ImageRuns
 pub mod Top
 pub mod Calm
 pub mod Headline
+pub mod Reuse

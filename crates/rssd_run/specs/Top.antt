@@ -1,5 +1,5 @@
 -- What the top call does for each command, by the status that it answers, over the logs of its sources and sinks.
-use Rattle.std.specs.Prelude.{◌≡◌, ◌≢◌, ◌⊎◌, ◌<◌, ◌≤◌, ◌+◌, ◌++◌, ◌∷◌, ℕ, Bool, true, false, List, [], replicate, length, Ok}
+use Rattle.std.specs.Prelude.{◌≡◌, ◌≢◌, ◌⊎◌, ◌<◌, ◌≤◌, ◌++◌, ◌∷◌, ℕ, Bool, true, false, List, [], replicate, length, Ok}
 use Rattle.cell_die.specs.DieState.{DieState}
 use Rattle.page_codec.specs.Sound.{live_count}
 use Rattle.mem_die.specs.MemState.{IsMade}

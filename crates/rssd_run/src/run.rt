@@ -4,13 +4,14 @@ ghost use Rattle.std.specs.List.{All};
 ghost use Rattle.rssd_core.specs.DeviceValue.{Numbers};
 ghost use Rattle.rssd_io.specs.Event.{Grows, HasFailed};
 ghost use Rattle.rssd_run.specs.Run.{RunsSession, CutsOffSession};
-ghost use Rattle.rssd_run.specs.Shows.{SessionValue, CanStep, HasNumbers, StepsSession};
+ghost use Rattle.rssd_run.specs.Shows.{SessionValue, CanStep, HasNumbers, KeepsSession, StepsSession};
 
 pub mod image;
 pub mod image_run;
 pub mod line;
 pub mod on_die;
 pub mod replay;
+pub mod reuse;
 pub mod schemes;
 pub mod script;
 pub mod session;
@@ -47,6 +48,7 @@ pub fn run_lines<S: Stepping, O: Sink>(
         → CutsOffSession d lines.now (S.session session.old) (S.session session.new) (O.log out.old) (O.log out.new)) }
     ensures grew { Grows (O.log out.old) (O.log out.new) }
     ensures fault { OnErr result (HasFailed (O.log out.old) (O.log out.new)) }
+    ensures keeps { (d : Numbers) → HasNumbers d (S.session session.old).holding → KeepsSession d (S.session session.old) (S.session session.new) }
 {
     for line in lines {
         let reply = session.step(alloc, line);

@@ -102,9 +102,10 @@ pub fn image_runs_without_failures_are_calm()
         (calm : CalmFor (numbers_named head) die lines) → All (λ line. is_arming line ≡ false) lines → IsCalm (given.run calm).run.events }
 {}
 
-/// The image of the cells that such a run on an image leaves is read again, as this head and these cells: no pad cell is charged.
+/// The image of the cells that a run on an image leaves is read again, as this head and these cells, whatever the image's cells are
+/// and whatever its lines: no pad cell is charged.
 pub fn image_runs_leave_images()
     ensures { (head : Head) (cells left : List ℕ) (last : DieState) (lines : List Spelled) (log after : List Event) (given : RunsImage head cells lines log after last)
-        → AreCells head cells → CalmFor (numbers_named head) given.die lines → HasCells left last
+        → AreCells head cells → HasCells left last
         → AreCells head left × (image_read false (image head left) ≡ Ok (head, left)) }
 {}

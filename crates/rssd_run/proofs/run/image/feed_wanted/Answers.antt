@@ -1,8 +1,8 @@
 -- Each piece is of what the reader wants, and so within its reach.
-use Rattle.std.proofs.Common.{ℕ, ◌<◌, ◌≤◌, ◌++◌, List, length, take, arith, refl, inl, inr}
+use Rattle.std.proofs.Common.{ℕ, ◌<◌, ◌≤◌, ◌++◌, List, length, take, arith, refl, inl}
 use Rattle.std.proofs.lemmas.List.{take-append-le, length-take}
 use Rattle.die_image.specs.Image.{wanted, Fed}
-use Rattle.rssd_run.proofs.ReadImage.{took_none, taken, taken_failed, fault, stuck, falls, fed_none, fed_more, fed_same, has_ended}
+use Rattle.rssd_run.proofs.ReadImage.{took_none, taken, taken_failed, fault, stuck, falls, fed_more, fed_same, has_ended}
 use Rattle.rssd_run.proofs.run.image.feed_wanted.Goals as goal
 
 pub returns-in-Ok-eq0-clause-fed : goal.returns-in-Ok-eq0-clause-fed

@@ -1,6 +1,6 @@
 -- A take more, on record.
 use Rattle.std.proofs.Common.{arith, length-take}
-use Rattle.rssd_run.proofs.ReadScript.{read_more, read_to_end, read_failed, read_stuck, takes_more, takes_failed, fed}
+use Rattle.rssd_run.proofs.ReadScript.{read_more, read_to_end, read_failed, read_stuck, fed}
 use Rattle.rssd_run.proofs.run.script.feed_all.Goals as goal
 
 pub returns-in-Ok-eq0-clause-read : goal.returns-in-Ok-eq0-clause-read
