@@ -49,7 +49,7 @@ module _ (head : ImageHead) (die : DieState) (fresh : IsFresh head die) where
       let none = blank_counts (numbers_named head).geometry die.cells blank 0 in
       omega (arith, live, none)
 
-  blank_start : (view : View) → IsStart head die view → IsBlankStart head view
+  pub blank_start : (view : View) → IsStart head die view → IsBlankStart head view
   blank_start view start =
       let d = numbers_named head in
       let same : view.device.die.cells ≡ die.cells = ap (λ (v : DeviceView). v.die.cells) start.same ∙ start.mounts.cells.cells in

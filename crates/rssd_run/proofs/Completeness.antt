@@ -13,20 +13,9 @@ use Rattle.rssd_run.specs.declared.status.Status.TheVariants.{Done, BadWords, Ba
 use Rattle.rssd_run.specs.Statuses.{Call, taken, WriteFailed}
 use Rattle.rssd_run.specs.ImageRuns.{IsFull}
 use Rattle.rssd_run.specs.Run.{pieces_of}
+use Rattle.rssd_run.specs.MakeRuns.{SaysMake}
+use Rattle.rssd_run.proofs.CallStops.{stopped, unflushed, never_refused}
 use Rattle.rssd_run.specs.Top.{SaysOf, SaysReplay, SaysRun, SaysFormat, SaysUpgrade, IsRunCutOff, IsRefused, IsBadImage, IsNoImage, HasScript, HasImage, HasOldImage, NoneFailed, IsComplete}
-
--- ---- a sink that took a part failed
-
-pub stopped : (pieces : List (List ℕ)) (old new : List Event) → StopsIn pieces old new → HasFailed old new
-stopped pieces old new (inl at) =
-    let given : List Event = all_given (take at.before pieces) in
-    let part : List ℕ = take at.n (get_or pieces at.before []) in
-    failed_since old new (given ++ moved part ∷ []) (at.log ∙ ap (λ (xs : List Event). old ++ xs) (sym (append_assoc given (moved part ∷ []) (failed ∷ []))))
-stopped pieces old new (inr at_end) = failed_since old new (all_given pieces) at_end
-
--- a run whose pieces were not handed on
-unflushed : (old given new pieces : List Event) → given ≡ old ++ pieces → new ≡ given ++ failed ∷ [] → HasFailed old new
-unflushed old given new pieces came stops = failed_since old new pieces (stops ∙ (ap (λ (xs : List Event). xs ++ failed ∷ []) came ∙ append_assoc old pieces (failed ∷ [])))
 
 replay_stopped : (head : ImageHead) (call : Call) → SaysReplay head call.script call.out WriteFault → WriteFailed call.out
 replay_stopped head call says = elim says.stops [
@@ -44,12 +33,6 @@ run_stopped call (inl stops) = stops.failed
 run_stopped call (inr all) = let grew = all.1.runs.runs.grew in unflushed call.out.before all.0 call.out.after grew.0 grew.1 all.2
 
 -- ---- what a refusal says of what was taken
-
-never_refused : (call : Call) → HasScript call → IsRefused call.script call.out → ⊥
-never_refused call script says = elim says [
-  | inl long ↦ (let more = long.0 in let short = script.is_script.0 in omega (arith, more, short))
-  | inr bad ↦ no_bad (taken call.script) script.lines bad.0 script.is_script.1 bad.2
-]
 
 never_full : (call : Call) (image : HasImage call) (head : ImageHead) (cells : List ℕ) → head ≡ image.head → cells ≡ image.cells → IsFull head cells → ⊥
 never_full call image head cells same_head same_cells full =
@@ -114,12 +97,21 @@ upgrade_completes call WriteFault says image none = absurd (none.no_image_out_fa
 upgrade_completes call BadWords says image none = absurd says
 upgrade_completes call BadScript says image none = absurd says
 
+make_completes : (head : ImageHead) (seed count : ℕ) (call : Call) (status : Status) → SaysMake head seed count call.out status → NoneFailed call → (status ≡ Done) ⊎ (status ≡ OutOfMemory)
+make_completes head seed count call Done says none = inl refl
+make_completes head seed count call OutOfMemory says none = inr refl
+make_completes head seed count call WriteFault says none = absurd (none.no_out_fault (stopped _ call.out.before call.out.after says.1))
+make_completes head seed count call BadWords says none = absurd says
+make_completes head seed count call BadScript says none = absurd says
+make_completes head seed count call BadImage says none = absurd says
+make_completes head seed count call ReadFault says none = absurd says
+
 pub completes : (command : Command) (call : Call) (status : Status) → SaysOf command call status → IsComplete command call status
 completes (Replay head) call status says asked none = replay_completes head call status says.0 asked none
 completes Run call status says asked none = run_completes call status says.0 asked.0 asked.1 none
 completes (Format head) call status says asked none = format_completes head call status says.0 none
 completes Upgrade call status says asked none = upgrade_completes call status says.0 asked none
-completes (Make seed count head) call status says asked none = absurd asked
+completes (Make seed count head) call status says asked none = make_completes head seed count call status says none
 completes (Queue head) call status says asked none = absurd asked
 completes (Worn head reserve bad) call status says asked none = absurd asked
 completes (Pair head) call status says asked none = absurd asked

@@ -80,7 +80,7 @@ module _ (head : ImageHead) (meaning : Meaning) (die : DieState) (given : IsGive
 
 -- ---- what is mounted
 
-none_added : (view : DeviceView) → NoCounts view → plus (record { first = 0; second = 0; declined = 0; moved = 0 }) view ≡ view
+pub none_added : (view : DeviceView) → NoCounts view → plus (record { first = 0; second = 0; declined = 0; moved = 0 }) view ≡ view
 none_added view none = λ i. record view {
   first = (ap (λ (n : ℕ). min (0 + n) (2 ^ 64 - 1)) none.first ∙ sym none.first) i;
   second = (ap (λ (n : ℕ). min (0 + n) (2 ^ 64 - 1)) none.second ∙ sym none.second) i;
@@ -88,7 +88,7 @@ none_added view none = λ i. record view {
   moved = (ap (λ (n : ℕ). min (0 + n) (2 ^ 64 - 1)) none.moved ∙ sym none.moved) i;
 }
 
-runs : (stopped : Bool) → stopped ≡ false → (rows : List (List ℕ)) → ArrayIs stopped rows (On rows)
+pub runs : (stopped : Bool) → stopped ≡ false → (rows : List (List ℕ)) → ArrayIs stopped rows (On rows)
 runs false e rows = refl
 runs true e rows = cc
 

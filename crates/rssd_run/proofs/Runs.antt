@@ -29,11 +29,11 @@ unfolding IsRun
 run_more d before [] now e run begins step = (begins ∙ run, step, refl)
 run_more d before (first ∷ events) now e run begins step = (run.0, run.1, run_more d first.after events now e run.2 begins step)
 
-lines_more : (events : List Event) (e : Event) → lines_of (events ++ e ∷ []) ≡ lines_of events ++ e.line ∷ []
+pub lines_more : (events : List Event) (e : Event) → lines_of (events ++ e ∷ []) ≡ lines_of events ++ e.line ∷ []
 lines_more [] e = refl
 lines_more (first ∷ events) e = ap (λ rest. first.line ∷ rest) (lines_more events e)
 
-pieces_more : (events : List Event) (e : Event) → pieces_of (events ++ e ∷ []) ≡ pieces_of events ++ reply_line e.reply ∷ []
+pub pieces_more : (events : List Event) (e : Event) → pieces_of (events ++ e ∷ []) ≡ pieces_of events ++ reply_line e.reply ∷ []
 pieces_more [] e = refl
 pieces_more (first ∷ events) e = ap (λ rest. reply_line first.reply ∷ rest) (pieces_more events e)
 

@@ -23,3 +23,6 @@ pub mod Top
 pub mod Calm
 pub mod Headline
 pub mod Reuse
+pub mod Workloads
+pub mod MakeRuns
+pub mod Upgrades

@@ -8,7 +8,7 @@ use Rattle.die_image.specs.declared.error.ImageError.TheVariants as images
 use Rattle.die_image.specs.declared.head.ImageHead.{ImageHead}
 use Rattle.die_image.specs.Image.{shape_of, die_bytes, image_read}
 use Rattle.rssd_words.specs.declared.command.Command.{Command}
-use Rattle.rssd_words.specs.declared.command.Command.TheVariants.{Replay, Run, Format, Upgrade}
+use Rattle.rssd_words.specs.declared.command.Command.TheVariants.{Replay, Run, Format, Upgrade, Make}
 use Rattle.rssd_words.specs.Commands.{words_of, IsWithin}
 use Rattle.rssd_io.specs.Event.{Event, flushed, failed}
 use Rattle.rssd_script.specs.declared.lines.Line.{Line}
@@ -22,6 +22,7 @@ use Rattle.rssd_run.specs.ReadImage.{ReadsImage, TakesImage, IsNoImageFor}
 use Rattle.rssd_run.specs.GiveImage.{image_pieces}
 use Rattle.rssd_run.specs.Heads.{numbers_named}
 use Rattle.rssd_run.specs.Replays.{Replays, ReplaysFront}
+use Rattle.rssd_run.specs.MakeRuns.{SaysMake}
 use Rattle.rssd_run.specs.ImageRuns.{HasCells, RunsImage, RunsImageFront, IsFull}
 
 -- the words spell this command, whose numbers are within its limits
@@ -203,6 +204,7 @@ AreBad call status = (status ≡ BadWords) × GaveLine call.out bad_words
 abbrev pub SaysOf : Command → Call → Status → Type 0
 SaysOf (Replay head) call status = SaysReplay head call.script call.out status × TakesScript call.script.before call.script.after
 SaysOf Run call status = SaysRun call.image call.script call.out call.image_out status × TakesScript call.script.before call.script.after × TakesImage false call.image.before call.image.after
+SaysOf (Make seed count head) call status = SaysMake head seed count call.out status
 SaysOf (Format head) call status = SaysFormat head call.image_out status × TookNothing call.out
 SaysOf Upgrade call status = SaysUpgrade call.image call.out call.image_out status × TakesImage true call.image.before call.image.after
 SaysOf command call status = AreBad call status
@@ -236,6 +238,7 @@ pub record HasOldImage (call : Call) : Type 0 where
 abbrev pub IsAsked : Command → Call → Type 0
 IsAsked (Replay head) call = HasScript call
 IsAsked Run call = HasScript call × HasImage call
+IsAsked (Make seed count head) call = Unit {0}
 IsAsked (Format head) call = Unit {0}
 IsAsked Upgrade call = HasOldImage call
 IsAsked command call = ⊥

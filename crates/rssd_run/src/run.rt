@@ -9,6 +9,7 @@ ghost use Rattle.rssd_run.specs.Shows.{SessionValue, CanStep, HasNumbers, KeepsS
 pub mod image;
 pub mod image_run;
 pub mod line;
+pub mod make_run;
 pub mod on_die;
 pub mod replay;
 pub mod reuse;
@@ -16,6 +17,8 @@ pub mod schemes;
 pub mod script;
 pub mod session;
 pub mod top;
+pub mod upgrade;
+pub mod workload;
 
 use rssd_io::{Sink, WriteFault};
 use rssd_script::{Line, Reply, print_reply};

@@ -1,5 +1,6 @@
 //! Lines on a device that runs. Each is one call of it, and a step from every view that it stood for to one that it stands for.
 ghost use Rattle.std.specs.Prelude.{◌≡◌, ◌≤◌, ◌<◌, ◌^◌, ◌↔◌, false, length, None, IfSome, IfNone, IfOk, IfErr};
+ghost use Rattle.cell_die.specs.Calls.{Kept};
 ghost use Rattle.cell_die.specs.DieState.{DieState};
 ghost use Rattle.page_codec.specs.Geometry.{shape_of};
 ghost use Rattle.rssd_core.specs.Failures.{Tells};
@@ -165,6 +166,8 @@ pub fn play<D: Die + Drop, C: Scheme + Drop, F: Device<D, C>>(
     ensures plays { IfSome result (λ reply. Plays (F.device ftl.old).numbers line.now reply (F.device ftl.old) (F.device ftl.new)) }
     ensures quiet { IfSome result (λ reply. PlaysQuiet reply (F.device ftl.old) (F.device ftl.new)) }
     ensures keeps { IfSome result (λ reply. KeepsDie (F.device ftl.old).numbers (F.device ftl.old).view.die (F.device ftl.new).view.die) }
+    ensures numbers { (F.device ftl.new).numbers ≡ (F.device ftl.old).numbers }
+    ensures kept { Kept (F.device ftl.old).view.die (F.device ftl.new).view.die }
 {
     match line {
         Line::Cut { .. } | Line::FailRead { .. } | Line::Mount | Line::Stat => None,

@@ -49,7 +49,7 @@ pub fn die_shape(head: &ImageHead) -> Shape
 }
 
 /// A session on the die.
-fn start<C: Scheme + Drop, F: PowerDevice<MemDie, C>>(
+pub fn start<C: Scheme + Drop, F: PowerDevice<MemDie, C>>(
     alloc: Global,
     head: &ImageHead,
     scheme: C,

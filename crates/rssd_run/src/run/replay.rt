@@ -22,7 +22,7 @@ use rssd_script::Line;
 use std::alloc::{AllocError, Global};
 
 /// A blank die of a head.
-fn blank_die(alloc: Global, head: &ImageHead) -> Result<MemDie, OutOfMemory>
+pub fn blank_die(alloc: Global, head: &ImageHead) -> Result<MemDie, OutOfMemory>
     requires { is_within_limits head.now ≡ true }
     ensures { IfOk result (λ die. IsNew (shape_of head.now) (mem_state die)) }
 {

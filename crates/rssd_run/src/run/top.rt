@@ -1,4 +1,4 @@
-//! The top call: words and input to output and a status. It knows the commands `replay`, `run`, `format` and
+//! The top call: words and input to output and a status. It knows the commands `replay`, `run`, `format`, `make` and
 //! `upgrade`; any other words are bad.
 ghost use Rattle.std.specs.Prelude.{◌≡◌, ℕ, List, map, string_bytes, true, false};
 ghost use Rattle.die_image.specs.Image.{is_within_limits};
@@ -12,9 +12,11 @@ ghost use Rattle.rssd_words.specs.Commands.{IsWithin};
 use crate::refusal::{refuse, refuse_image, refuse_script, refuse_words};
 use crate::run::image::{ImageReadError, give_image, read_image};
 use crate::run::image_run::{blank_cells, cells_of, run_image};
+use crate::run::make_run::answer_make;
 use crate::run::on_die::RunError;
 use crate::run::replay::replay;
 use crate::run::script::{ReadError, read_script};
+use crate::run::workload::Seeded;
 use crate::status::Status;
 use die_image::{ImageHead, ImageReader};
 use rssd_io::{Sink, Source};
@@ -153,6 +155,13 @@ fn answer_command<I: Source, T: Source, O: Sink, G: Sink>(
         Command::Replay(head) => answer_replay(alloc, head, script, out),
         Command::Run => answer_run(alloc, image, script, out, image_out),
         Command::Format(head) => answer_format(alloc, head, image_out),
+        Command::Make { seed, count, head } => {
+            let seeded = Seeded {
+                seed: *seed,
+                count: *count,
+            };
+            answer_make(alloc, head, seeded, out)
+        }
         Command::Upgrade => answer_upgrade(alloc, image, out, image_out),
         _ => refuse_words(out),
     }
@@ -191,6 +200,8 @@ fn answer<I: Source, T: Source, O: Sink, G: Sink>(
 /// - `run` reads the script and then the image, mounts a die of its cells, gives the replies, has `out` hand them on, and then
 ///   gives the image of the cells as they stand to `image_out`: the head in one piece, and each page in one.
 /// - `format SCHEME BLOCKS PAGES SECTORS REUSE` gives the image of a blank die to `image_out`.
+/// - `make SEED COUNT SCHEME BLOCKS PAGES SECTORS REUSE` steps the lines of a workload, which is a function of its seed, on a blank
+///   die, and gives two lines to `out`: the reply to `stat`, and what the sectors hold.
 /// - `upgrade` reads an image of version 1, and gives the image of version 2 with the same head and cells to `image_out`.
 ///
 /// The other commands are not known yet: their words are bad. A source that the command does not read, and a sink that it does
