@@ -1,5 +1,5 @@
 -- The idle victim has a live record, and the first that the map names is the first live one.
-use Rattle.std.proofs.Common.{◌≡◌, ◌⊎◌, inl, inr, ℕ, ◌+◌, ◌-◌, ◌*◌, ◌%◌, ◌<◌, ◌≤◌, Bool, true, false, max, List, length, ◌&&◌, ◌==◌, nat_lt, if◌then◌else◌, IfNone, Option, Some, None, refl, sym, ap, ap₂, ◌∙◌, arith, subst}
+use Rattle.std.proofs.Common.{◌≡◌, ◌⊎◌, inl, inr, ℕ, ◌+◌, ◌-◌, ◌*◌, ◌%◌, ◌<◌, ◌≤◌, Bool, true, false, max, List, length, ◌&&◌, ◌==◌, nat_lt, if◌then◌else◌, IfNone, OnErr, Option, Some, None, Result, Ok, Err, refl, sym, ap, ap₂, ◌∙◌, arith, subst}
 use Rattle.std.proofs.lemmas.Bool.{cases_lt, and_parts, eqb-true, ltb-true, lt-ltb, eq-eqb, false≢true}
 use Rattle.std.proofs.lemmas.Option.{same_Some, none-some}
 use Rattle.std.proofs.lemmas.List.{get_or_past}
@@ -9,7 +9,7 @@ use Rattle.zero_count.specs.declared.Header.{Header}
 use Rattle.cell_die.specs.declared.shape.Shape.{Shape}
 use Rattle.cell_die.specs.DieState.{DieState}
 use Rattle.cell_die.specs.Changes.{SameCells}
-use Rattle.cell_die.specs.Calls.{Passed, PassedWithin}
+use Rattle.cell_die.specs.Calls.{Passed, PassedWithin, ReadFailed}
 use Rattle.cell_die.proofs.Sequences.{passed_trans, change_failed_after, read_failed_after, passed_within, change_failed_within, read_failed_within}
 use Rattle.striped.specs.Meaning.{Meaning, Decoding}
 use Rattle.sector_map.specs.declared.entry.Entry.{Entry}
@@ -23,7 +23,7 @@ use Rattle.block_state.specs.Victim.{IsIdleVictim, NoneFits}
 use Rattle.page_codec.specs.declared.place.Place.{Place}
 use Rattle.page_codec.specs.declared.fault.PutFault.TheVariants.{Read, Change}
 use Rattle.page_codec.specs.Geometry.{Geometry, page_count, block_of}
-use Rattle.page_codec.specs.Records.{Placed, header_in, live_record}
+use Rattle.page_codec.specs.Records.{Placed, header_in, committed_in, live_record}
 use Rattle.page_codec.specs.Sectors.{says_zeros, stored}
 use Rattle.page_codec.specs.Sizes.{Sizes}
 use Rattle.page_codec.specs.Sound.{live_count, stands_in}
@@ -32,7 +32,7 @@ use Rattle.page_codec.proofs.Live.{live_counts}
 use Rattle.collector.specs.declared.live.LiveRecord.{LiveRecord}
 use Rattle.collector.specs.Store.{Store, geometry_of}
 use Rattle.collector.specs.Effects.{recorded, filled}
-use Rattle.collector.specs.Moves.{IsFirstLive, NoMoveLeft, Moved, MoveReadFailed, MoveChangeFailed, move_reads}
+use Rattle.collector.specs.Moves.{ComesBefore, IsFirstLive, NoMoveLeft, Moved, MoveReadFailed, MoveChangeFailed, get_reads, move_reads}
 use Rattle.collector.specs.Named.{names_slot, named_record, named_in, IsFirstNamed, HasNamed}
 use Rattle.collector.specs.Again.{IsNextPage, IsLive, again, again_reads, MovedRecord, MoveFails}
 use Rattle.collector.proofs.Blanks.{committed_header}
@@ -179,6 +179,24 @@ module _ (g : Geometry) (sizes : Sizes) (die : DieState) (book : BookValue) (tab
       found (inl (k, below, stands)) some = one k below (live_record g die.cells k) refl stands
       found (inr none) some = absurd (omega (arith, none_pass (λ s. stands_in g victim (live_record g die.cells s)) g.sectors none))
 
+  -- the first live one is named
+  first_named : (victim : ℕ) (first : Placed) → IsFirstLive g die.cells victim first → HasNamed table sizes die (victim * g.pages) g.pages
+  first_named victim first is =
+      let pages = page_in_block g first.place.page victim some_pages is.inside in
+      record {
+        live = record { place = first.place; header = first.header };
+        low = pages.0;
+        high = pages.1;
+        slot = subst (λ (n : ℕ). first.place.slot < n) (sym generations) (live_within g die.cells first.header.sector first slots is.live).1;
+        named = at_bytes first.place ∙ live_named g die book table seq t sectors first.header.sector first is.sector is.live;
+      }
+
+  -- so a search that fails does so on its page at the latest
+  pub named_sooner : (victim : ℕ) (first : Placed) (new : DieState) → IsFirstLive g die.cells victim first
+      → ((has : HasNamed table sizes die (victim * g.pages) g.pages) → ReadFailed 0 (has.live.place.page + 1 - victim * g.pages) die new) → ReadFailed 0 (first.place.page + 1 - victim * g.pages) die new
+  unfolding first_named
+  named_sooner victim first new is f = f (first_named victim first is)
+
   -- the first that is named is the first live one
   pub first_live : (victim : ℕ) (live : LiveRecord) → IsFirstNamed table sizes die (victim * g.pages) g.pages live → IsFirstLive g die.cells victim (record { place = live.place; header = live.header })
   first_live victim live f =
@@ -196,18 +214,22 @@ module _ (g : Geometry) (sizes : Sizes) (die : DieState) (book : BookValue) (tab
 
 -- ---- the search before the move changes no cell
 
-again_few : (g : Geometry) (meaning : Meaning) (live : LiveRecord) → meaning.span ≡ g.span → again_reads meaning live ≤ max 1 g.span
-again_few g meaning live spans = at (says_zeros live.header) (live.place.slot == 0)
+-- by the device's span, those of getting the record
+again_gets : (g : Geometry) (meaning : Meaning) (live : LiveRecord) → meaning.span ≡ g.span → again_reads meaning live ≡ get_reads g (Some (record { place = live.place; header = live.header }))
+again_gets g meaning live spans = ap (λ (n : ℕ). if says_zeros live.header then 0 else (if live.place.slot == 0 then 1 else n)) spans
+
+gets_few : (g : Geometry) (p : Placed) → get_reads g (Some p) ≤ max 1 g.span
+gets_few g p = at (says_zeros p.header) (p.place.slot == 0)
   where
-    at : (z s : Bool) → (if z then 0 else (if s then 1 else meaning.span)) ≤ max 1 g.span
+    at : (z s : Bool) → (if z then 0 else (if s then 1 else g.span)) ≤ max 1 g.span
     at true s = omega arith
     at false true = omega arith
     at false false = omega arith
 
-pub moved_calls : (g : Geometry) (meaning : Meaning) (live : LiveRecord) (from last : ℕ) (old mid new : DieState) → meaning.span ≡ g.span → from ≤ last → last < from + g.pages
-    → Passed 0 (last + 1 - from) old mid → Passed 2 (again_reads meaning live) mid new → PassedWithin 2 (move_reads g) old new
-moved_calls g meaning live from last old mid new spans low high first second =
-    passed_within (move_reads g) (omega (arith, again_few g meaning live spans)) (passed_trans first second)
+pub moved_calls : (g : Geometry) (meaning : Meaning) (live : LiveRecord) (block : ℕ) (old mid new : DieState) → meaning.span ≡ g.span
+    → Passed 0 (live.place.page + 1 - block * g.pages) old mid → Passed 2 (again_reads meaning live) mid new → PassedWithin 2 (move_reads g block (record { place = live.place; header = live.header })) old new
+moved_calls g meaning live block old mid new spans first second =
+    passed_within (move_reads g block (record { place = live.place; header = live.header })) (omega (arith, again_gets g meaning live spans)) (passed_trans first second)
 
 -- the move of a record from the same cells
 pub moved_from : (g : Geometry) (d : Decoding) (live : LiveRecord) (page : ℕ) (old new : Store) (mid : DieState) → SameCells old.die mid → MovedRecord g d live page (record old { die = mid }) new → MovedRecord g d live page old new
@@ -222,10 +244,10 @@ moved_from g d live page old new mid same m = record {
 
 -- a record of the victim was moved
 pub moved_one : (g : Geometry) (meaning : Meaning) (old new : Store) (mid : DieState) (page room victim : ℕ) (live : LiveRecord) → old.book.pages ≡ g.pages → meaning.span ≡ g.span → IsNextPage old.book page room
-    → IsIdleVictim old.book room victim → SameCells old.die mid → Passed 0 (live.place.page + 1 - victim * g.pages) old.die mid → victim * g.pages ≤ live.place.page → live.place.page < victim * g.pages + g.pages
-    → IsFirstLive g old.die.cells victim (record { place = live.place; header = live.header }) → MovedRecord g meaning.decoding live page (record old { die = mid }) new → Passed 2 (again_reads meaning live) mid new.die
+    → IsIdleVictim old.book room victim → SameCells old.die mid → Passed 0 (live.place.page + 1 - victim * g.pages) old.die mid
+    → IsFirstLive g old.die.cells victim (record { place = live.place; header = live.header }) → MovedRecord g meaning.decoding live page (record old { die = mid }) new → new.die.erases ≡ mid.erases → Passed 2 (again_reads meaning live) mid new.die
     → Moved g meaning.decoding old new
-moved_one g meaning old new mid page room victim live pages spans next is same passed low high first moved put =
+moved_one g meaning old new mid page room victim live pages spans next is same passed first moved still put =
     let m = moved_from g meaning.decoding live page old new mid same moved in
     record {
       block = next.block;
@@ -241,23 +263,79 @@ moved_one g meaning old new mid page room victim live pages spans next is same p
       book = m.book next.block next.fill next.active ∙ ap (λ (b : ℕ). filled (recorded old.book next.block (Some b)) next.block) first.inside;
       seq = m.seq;
       tables = m.tables;
-      calls = moved_calls g meaning live (victim * g.pages) live.place.page old.die mid new.die spans low high passed put;
+      erases = still ∙ same.erases;
+      calls = moved_calls g meaning live victim old.die mid new.die spans passed put;
     }
 
-pub read_failed_one : (g : Geometry) (meaning : Meaning) (old new : Store) (mid : DieState) (from : ℕ) (live : LiveRecord) → meaning.span ≡ g.span → SameCells old.die mid → Passed 0 (live.place.page + 1 - from) old.die mid
-    → from ≤ live.place.page → live.place.page < from + g.pages → MoveFails g meaning live Read (record old { die = mid }) new → MoveReadFailed g old new
-read_failed_one g meaning old new mid from live spans same passed low high m = record {
+-- a block has one first live record
+one_first : (g : Geometry) (cells : List (List ℕ)) (block : ℕ) (a b : Placed) → IsFirstLive g cells block a → IsFirstLive g cells block b → a ≡ b
+one_first g cells block a b first other = λ i. record { place = place i; header = header i }
+  where
+    not_before : ComesBefore b.place a.place → ⊥
+    not_before = first.none_before b.header.sector b other.sector other.live other.inside
+
+    not_after : ComesBefore a.place b.place → ⊥
+    not_after = other.none_before a.header.sector a first.sector first.live first.inside
+
+    at_least : (m n : ℕ) → (m < n → ⊥) → n ≤ m
+    at_least m n never = elim (cases_lt m n) [ inl below ↦ absurd (never below) | inr above ↦ above ]
+
+    same_page : a.place.page ≡ b.place.page
+    same_page = omega (arith, at_least b.place.page a.place.page (λ h. not_before (inl h)), at_least a.place.page b.place.page (λ h. not_after (inl h)))
+
+    same_slot : a.place.slot ≡ b.place.slot
+    same_slot = omega (arith, at_least b.place.slot a.place.slot (λ h. not_before (inr (sym same_page, h))), at_least a.place.slot b.place.slot (λ h. not_after (inr (same_page, h))))
+
+    place : a.place ≡ b.place
+    place = λ i. record { page = same_page i; slot = same_slot i }
+
+    header : a.header ≡ b.header
+    header = same_Some _ _ (sym (live_counts g cells a.header.sector a first.live) ∙ (ap (committed_in g cells) place ∙ live_counts g cells b.header.sector b other.live))
+
+-- A read of getting the victim's first live record failed, or one before it.
+pub read_failed_one : (g : Geometry) (meaning : Meaning) (old new : Store) (mid : DieState) (page room victim : ℕ) (live : LiveRecord) → meaning.span ≡ g.span → IsNextPage old.book page room
+    → IsIdleVictim old.book room victim → SameCells old.die mid → Passed 0 (live.place.page + 1 - victim * g.pages) old.die mid
+    → live.place.page < victim * g.pages + g.pages → IsFirstLive g old.die.cells victim (record { place = live.place; header = live.header }) → MoveFails g meaning live Read (record old { die = mid }) new → MoveReadFailed g old new
+read_failed_one g meaning old new mid page room victim live spans next is same passed high first m = record {
   same = m.0;
   cells = record { cells = m.1.cells ∙ same.cells; erases = m.1.erases ∙ same.erases };
-  failed = read_failed_within 0 (move_reads g) (omega arith) (omega (arith, again_few g meaning live spans)) (read_failed_after passed m.2);
+  room = room;
+  is_room = inl (next.block, next.fill, next.active, next.room_is);
+  victim = victim;
+  is_victim = is;
+  failed = read_failed_within 0 (g.pages + max 1 g.span) (omega arith) (omega (arith, high, again_gets g meaning live spans, gets_few g (record { place = live.place; header = live.header }))) (read_failed_after passed m.2);
+  by_then = λ other is_other. subst (λ (p : Placed). ReadFailed 0 (move_reads g victim p) old.die new.die) (one_first g old.die.cells victim (record { place = live.place; header = live.header }) other first is_other)
+      (read_failed_within 0 (move_reads g victim (record { place = live.place; header = live.header })) (omega arith) (omega (arith, again_gets g meaning live spans)) (read_failed_after passed m.2));
 }
 
-pub change_failed_one : (g : Geometry) (meaning : Meaning) (old new : Store) (mid : DieState) (from : ℕ) (live : LiveRecord) → meaning.span ≡ g.span → SameCells old.die mid → Passed 0 (live.place.page + 1 - from) old.die mid
-    → from ≤ live.place.page → live.place.page < from + g.pages → MoveFails g meaning live Change (record old { die = mid }) new → MoveChangeFailed g meaning.decoding old new
-change_failed_one g meaning old new mid from live spans same passed low high m = record {
+-- A read of the search for it failed.
+pub search_failed_one : (g : Geometry) (old : Store) (new : DieState) (page room victim : ℕ) → IsNextPage old.book page room → IsIdleVictim old.book room victim → SameCells old.die new → ReadFailed 0 g.pages old.die new
+    → ((first : Placed) → IsFirstLive g old.die.cells victim first → ReadFailed 0 (first.place.page + 1 - victim * g.pages) old.die new) → MoveReadFailed g old (record old { die = new })
+search_failed_one g old new page room victim next is same any failed = record {
+  same = refl;
+  cells = same;
+  room = room;
+  is_room = inl (next.block, next.fill, next.active, next.room_is);
+  victim = victim;
+  is_victim = is;
+  failed = read_failed_within 0 (g.pages + max 1 g.span) (omega arith) (omega arith) any;
+  by_then = λ first is_first. read_failed_within 0 (move_reads g victim first) (omega arith) (omega arith) (failed first is_first);
+}
+
+pub change_failed_one : (g : Geometry) (meaning : Meaning) (old new : Store) (mid : DieState) (page room victim : ℕ) (live : LiveRecord) → meaning.span ≡ g.span → IsNextPage old.book page room
+    → IsIdleVictim old.book room victim → SameCells old.die mid → Passed 0 (live.place.page + 1 - victim * g.pages) old.die mid
+    → IsFirstLive g old.die.cells victim (record { place = live.place; header = live.header }) → MoveFails g meaning live Change (record old { die = mid }) new → new.die.erases ≡ mid.erases → MoveChangeFailed g meaning.decoding old new
+change_failed_one g meaning old new mid page room victim live spans next is same passed first m still = record {
   same = m.0;
   rows = m.1 ∙ ap (stored g meaning.decoding) same.cells;
-  failed = change_failed_within 2 (move_reads g) (omega arith) (omega (arith, again_few g meaning live spans)) (change_failed_after passed m.2);
+  room = room;
+  is_room = inl (next.block, next.fill, next.active, next.room_is);
+  victim = victim;
+  is_victim = is;
+  first = record { place = live.place; header = live.header };
+  is_first = first;
+  erases = still ∙ same.erases;
+  failed = change_failed_within 2 (move_reads g victim (record { place = live.place; header = live.header })) (omega arith) (omega (arith, again_gets g meaning live spans)) (change_failed_after passed m.2);
 }
 
 -- the block of the next page has a page
@@ -276,6 +354,21 @@ first_at table sizes die victim pages pages' live same f = subst (λ (n : ℕ). 
 
 pub named_at : (table : List (Option Entry)) (sizes : Sizes) (die : DieState) (victim pages pages' : ℕ) → pages ≡ pages' → HasNamed table sizes die (victim * pages) pages → HasNamed table sizes die (victim * pages') pages'
 named_at table sizes die victim pages pages' same h = subst (λ (n : ℕ). HasNamed table sizes die (victim * n) n) same h
+
+pub failed_at : (table : List (Option Entry)) (sizes : Sizes) (old new : DieState) (victim pages pages' : ℕ) → pages ≡ pages'
+    → ((has : HasNamed table sizes old (victim * pages) pages) → ReadFailed 0 (has.live.place.page + 1 - victim * pages) old new)
+    → (has : HasNamed table sizes old (victim * pages') pages') → ReadFailed 0 (has.live.place.page + 1 - victim * pages') old new
+failed_at table sizes old new victim pages pages' same f =
+    subst (λ (n : ℕ). (has : HasNamed table sizes old (victim * n) n) → ReadFailed 0 (has.live.place.page + 1 - victim * n) old new) same f
+
+pub failed_any : (table : List (Option Entry)) (sizes : Sizes) (old new : DieState) (victim pages : ℕ) → ((has : HasNamed table sizes old (victim * pages) pages) → ReadFailed 0 (has.live.place.page + 1 - victim * pages) old new)
+    → HasNamed table sizes old (victim * pages) pages → ReadFailed 0 pages old new
+failed_any table sizes old new victim pages f has = read_failed_within 0 pages (omega arith) (omega (arith, has.low, has.high)) (f has)
+
+-- what holds where a result is an error
+pub on_err : {A E P : Type 0} (r : Result A E) → ((a : A) → r ≡ Ok a → ⊥) → OnErr r P → P
+on_err (Ok a) never h = absurd (never a refl)
+on_err (Err e) never h = h
 
 pub passed_at : (old mid : DieState) (last victim pages pages' : ℕ) → pages ≡ pages' → Passed 0 (last + 1 - victim * pages) old mid → Passed 0 (last + 1 - victim * pages') old mid
 passed_at old mid last victim pages pages' same p = subst (λ (n : ℕ). Passed 0 (last + 1 - victim * n) old mid) same p

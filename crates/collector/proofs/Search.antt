@@ -1,14 +1,14 @@
 -- The search for the first record that the map names, slot by slot on each page.
 use Rattle.std.proofs.Common.{◌≡◌, ◌≢◌, ◌⊎◌, inl, inr, ℕ, zero, suc, ◌+◌, ◌-◌, ◌<◌, ◌≤◌, Bool, true, false, List, drop, ◌&&◌, nat_lt, length, if◌then◌else◌, Option, Some, None, refl, sym, ap, ◌∙◌, arith, subst}
 use Rattle.std.specs.Option.{option_or}
-use Rattle.std.proofs.lemmas.Bool.{cases_eq, eq-eqb, ne_eqb}
+use Rattle.std.proofs.lemmas.Bool.{cases_eq, cases_lt, eq-eqb, ne_eqb}
 use Rattle.std.proofs.lemmas.Option.{same_Some, none-some}
 use Rattle.zero_count.specs.declared.Header.{Header}
 use Rattle.cell_die.specs.Cells.{page_at}
 use Rattle.cell_die.specs.DieState.{DieState, page_of}
 use Rattle.cell_die.specs.Changes.{SameCells}
-use Rattle.cell_die.specs.Calls.{Kept, Passed}
-use Rattle.cell_die.proofs.Sequences.{kept_trans, passed_trans}
+use Rattle.cell_die.specs.Calls.{Kept, Passed, ReadFailed}
+use Rattle.cell_die.proofs.Sequences.{kept_trans, passed_trans, read_failed_after, read_failed_within}
 use Rattle.spare_gate.specs.Slots.{header_at}
 use Rattle.sector_map.specs.declared.entry.Entry.{Entry}
 use Rattle.sector_map.specs.Entry.{entry_at}
@@ -174,6 +174,18 @@ searched_more table sizes old die new from page low few s same kept passed none 
   passed = subst (λ (n : ℕ). Passed 0 n old new) (omega arith) (passed_trans s.passed passed);
   none = none_found table sizes old die from page s (none_seen table sizes.page_bytes sizes.generations page die few none);
 }
+
+-- a read that fails does so on no later page than a record that the map names
+pub searched_failed : (table : List (Option Entry)) (sizes : Sizes) (old die new : DieState) (from pages page : ℕ) → from ≤ page → Searched table sizes old die from page → ReadFailed 0 1 die new
+    → (has : HasNamed table sizes old from pages) → ReadFailed 0 (has.live.place.page + 1 - from) old new
+searched_failed table sizes old die new from pages page low s failed has =
+    read_failed_within 0 (has.live.place.page + 1 - from) (omega arith) (omega (arith, there, low)) (read_failed_after s.passed failed)
+  where
+    there : page ≤ has.live.place.page
+    there = elim (cases_lt has.live.place.page page) [
+      | inl before ↦ absurd (none-some has.live (sym (s.none has.live.place has.low before has.slot) ∙ has.named))
+      | inr h ↦ h
+    ]
 
 pub searched_passed : (table : List (Option Entry)) (sizes : Sizes) (old die new : DieState) (from page last : ℕ) → from ≤ page → last ≡ page → Searched table sizes old die from page → Passed 0 1 die new → Passed 0 (last + 1 - from) old new
 searched_passed table sizes old die new from page last low same s passed = subst (λ (n : ℕ). Passed 0 n old new) (omega arith) (passed_trans s.passed passed)

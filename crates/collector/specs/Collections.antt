@@ -13,6 +13,7 @@ use Rattle.page_codec.specs.Sectors.{says_zeros}
 use Rattle.page_codec.specs.Sound.{IsSound, stands_in}
 use Rattle.collector.specs.Effects.{sealed}
 use Rattle.collector.specs.Moves.{ComesBefore}
+pub use Rattle.collector.specs.Moves.{get_reads}
 use Rattle.collector.specs.Store.{Store, IsTrueStore, SameRows}
 
 -- the kind of a copy: 2 for bytes, 4 for zeros
@@ -27,11 +28,6 @@ erase_calls _ = 1
 -- the change calls of a collection: an erase if there is one, two for each copy, and the seal
 abbrev pub collection_calls : BookValue → ℕ → ℕ → ℕ
 collection_calls book victim spare = erase_calls (state_at book spare) + 2 * live_at book victim + 1
-
--- the reads of getting a record: none where it says zeros
-abbrev pub get_reads : Geometry → Option Placed → ℕ
-get_reads g None = 0
-get_reads g (Some placed) = if says_zeros placed.header then 0 else (if placed.place.slot == 0 then 1 else g.span)
 
 -- the reads of a collection: the victim's pages, and those of getting each live record of it
 abbrev pub collection_reads : Geometry → List (List ℕ) → ℕ → ℕ

@@ -1,6 +1,7 @@
 pub mod Effects
 pub mod Store
 pub mod Moves
+pub mod Erases
 pub mod Named
 pub mod Again
 pub mod Collections

@@ -1,5 +1,5 @@
 -- What an idle move leaves.
-use Rattle.std.specs.Prelude.{◌≡◌, ◌≢◌, ◌⊎◌, ℕ, ◌+◌, ◌*◌, ◌-◌, ◌<◌, List, max, if◌then◌else◌, Some}
+use Rattle.std.specs.Prelude.{◌≡◌, ◌≢◌, ◌⊎◌, ℕ, ◌+◌, ◌*◌, ◌-◌, ◌<◌, List, max, ◌==◌, if◌then◌else◌, Option, Some, None}
 use Rattle.zero_count.specs.declared.Header.{Header}
 use Rattle.cell_die.specs.Changes.{SameCells}
 use Rattle.cell_die.specs.Calls.{PassedWithin, ChangeFailed, ReadFailed}
@@ -37,9 +37,14 @@ IsRoom book room = ((block fill : ℕ) × (state_at book block ≡ Active fill) 
 abbrev pub NoMoveLeft : BookValue → Type 0
 NoMoveLeft book = (room : ℕ) → IsRoom book room → NoneFits book 1 room
 
--- at most the pages of its block, and then the record
-abbrev pub move_reads : Geometry → ℕ
-move_reads g = g.pages + max 1 g.span
+-- the reads of getting a record: none where it says zeros
+abbrev pub get_reads : Geometry → Option Placed → ℕ
+get_reads g None = 0
+get_reads g (Some placed) = if says_zeros placed.header then 0 else (if placed.place.slot == 0 then 1 else g.span)
+
+-- the reads of a move: the block's pages up to that of its first live record, and those of getting the record
+abbrev pub move_reads : Geometry → ℕ → Placed → ℕ
+move_reads g block first = (first.place.page + 1 - block * g.pages) + get_reads g (Some first)
 
 -- A record was moved: the first live one of the idle victim stands in slot 0 of the Active block's next page.
 pub record Moved (g : Geometry) (d : Decoding) (old new : Store) : Type 0 where
@@ -57,16 +62,29 @@ pub record Moved (g : Geometry) (d : Decoding) (old new : Store) : Type 0 where
   pub book : new.book ≡ filled (recorded old.book block (Some victim)) block
   pub seq : new.seq ≡ old.seq + 1
   pub tables : IsTrueStore g new
-  pub calls : PassedWithin 2 (move_reads g) old.die new.die
+  pub erases : new.die.erases ≡ old.die.erases
+  pub calls : PassedWithin 2 (move_reads g victim first) old.die new.die
 
--- A read failed: nothing changed.
+-- A read failed, of the pages of the idle victim or of getting its first live record, and at the latest there: nothing changed.
 pub record MoveReadFailed (g : Geometry) (old new : Store) : Type 0 where
   pub same : new ≡ record old { die = new.die }
   pub cells : SameCells old.die new.die
-  pub failed : ReadFailed 0 (move_reads g) old.die new.die
+  pub room : ℕ
+  pub is_room : IsRoom old.book room
+  pub victim : ℕ
+  pub is_victim : IsIdleVictim old.book room victim
+  pub failed : ReadFailed 0 (g.pages + max 1 g.span) old.die new.die
+  pub by_then : (first : Placed) → IsFirstLive g old.die.cells victim first → ReadFailed 0 (move_reads g victim first) old.die new.die
 
--- A change call failed: the sectors are as before, and one number was drawn.
+-- A change call of the move of that record failed: the sectors are as before, and one number was drawn.
 pub record MoveChangeFailed (g : Geometry) (d : Decoding) (old new : Store) : Type 0 where
   pub same : new ≡ record old { die = new.die; seq = old.seq + 1 }
   pub rows : SameRows g d old new
-  pub failed : ChangeFailed 2 (move_reads g) old.die new.die
+  pub room : ℕ
+  pub is_room : IsRoom old.book room
+  pub victim : ℕ
+  pub is_victim : IsIdleVictim old.book room victim
+  pub first : Placed
+  pub is_first : IsFirstLive g old.die.cells victim first
+  pub erases : new.die.erases ≡ old.die.erases
+  pub failed : ChangeFailed 2 (move_reads g victim first) old.die new.die

@@ -53,6 +53,7 @@ fn put_zeros_again<D: Die>(
     requires blank { is_blank (page_of (D.state die.old) page) ≡ true }
     requires fresh { seq.old < 2 ^ 62 }
     ensures ends { (meaning : Meaning) → AgainEnds meaning live.now page result (D.state die.old) seq.old (D.state die.new) seq.new }
+    ensures same_erases { (D.state die.new).erases ≡ (D.state die.old).erases }
     ensures kept { Kept (D.state die.old) (D.state die.new) }
     ensures same_work { work.new ≡ work.old }
 {
@@ -112,6 +113,7 @@ fn put_bytes_again<D: Die, C: Scheme>(
     requires blank { is_blank (page_of (D.state die.old) page) ≡ true }
     requires fresh { seq.old < 2 ^ 62 }
     ensures ends { AgainEnds (C.meaning scheme.old) live.now page result (D.state die.old) seq.old (D.state die.new) seq.new }
+    ensures same_erases { (D.state die.new).erases ≡ (D.state die.old).erases }
     ensures kept { Kept (D.state die.old) (D.state die.new) }
     ensures same_scheme { C.meaning scheme.new ≡ C.meaning scheme.old }
     ensures same_work { work.new ≡ work.old }
@@ -145,6 +147,7 @@ pub(crate) fn put_again<D: Die, C: Scheme>(
     requires blank { is_blank (page_of (D.state die.old) page) ≡ true }
     requires fresh { seq.old < 2 ^ 62 }
     ensures ends { AgainEnds (C.meaning scheme.old) live.now page result (D.state die.old) seq.old (D.state die.new) seq.new }
+    ensures same_erases { (D.state die.new).erases ≡ (D.state die.old).erases }
     ensures kept { Kept (D.state die.old) (D.state die.new) }
     ensures same_scheme { C.meaning scheme.new ≡ C.meaning scheme.old }
     ensures same_work { work.new ≡ work.old }

@@ -1,12 +1,13 @@
 //! Collections: all live records of a victim are copied into the Spare, and count at once from the seal of it on. The order is
 //! erase, copies and seal, so that a cut leaves the sectors as they were up to the seal, and as they were from it on.
 ghost use Rattle.std.specs.Prelude.{◌≡◌, ◌+◌, ◌*◌, ◌<◌, ◌≤◌, ◌^◌, ℕ, length, IfOk, Err};
-ghost use Rattle.block_state.specs.Book.{live_at};
+ghost use Rattle.block_state.specs.Book.{live_at, state_at};
 ghost use Rattle.page_alloc.specs.CleanPage.{IsCollectBranch};
 ghost use Rattle.page_codec.specs.Sizes.{Serves, ServesScheme};
 ghost use Rattle.page_codec.specs.TrueBook.{IsTrue};
 ghost use Rattle.collector.specs.Store.{geometry_of, store, Holds};
 ghost use Rattle.collector.specs.Collections.{Collected, CollectReadFailed, CollectChangeFailed};
+ghost use Rattle.collector.specs.Erases.{erased_in, EraseEnds};
 ghost use Rattle.collector.specs.Inside.{Begun, CollectEnds};
 
 use crate::blank::blank_spare;
@@ -43,6 +44,7 @@ fn copy_sealed<D: Die, C: Scheme>(
         (store (D.state die.old) map.old book.old seq.old) (store (D.state die.new) map.new book.new seq.new) }
     ensures ends { CollectEnds (geometry_of (D.state die.old).shape (C.meaning scheme.old) (length map.old)) (C.meaning scheme.old).decoding victim spare
         (store (D.state die.old) map.old book.old seq.old) (store (D.state die.new) map.new book.new seq.new) result }
+    ensures same_erases { (D.state die.new).erases ≡ (D.state die.old).erases }
     ensures same_scheme { C.meaning scheme.new ≡ C.meaning scheme.old }
     ensures same_work { work.new ≡ work.old }
 {
@@ -85,6 +87,7 @@ fn collect_into<D: Die, C: Scheme>(
         (store (D.state die.old) map.old book.old seq.old) (store (D.state die.new) map.new book.new seq.new) }
     ensures ends { CollectEnds (geometry_of (D.state die.old).shape (C.meaning scheme.old) (length map.old)) (C.meaning scheme.old).decoding victim spare
         (store (D.state die.old) map.old book.old seq.old) (store (D.state die.new) map.new book.new seq.new) result }
+    ensures erased { EraseEnds (erased_in (state_at book.old spare) spare) result (D.state die.old) (D.state die.new) }
     ensures same_scheme { C.meaning scheme.new ≡ C.meaning scheme.old }
     ensures same_work { work.new ≡ work.old }
 {
@@ -127,6 +130,7 @@ pub fn collect<D: Die, C: Scheme>(
     ensures change_failed { (victim spare : ℕ) → IsCollectBranch book.old victim spare → result ≡ Err PutFault.Change
         → CollectChangeFailed (geometry_of (D.state die.old).shape (C.meaning scheme.old) (length map.old)) (C.meaning scheme.old).decoding victim spare
         (store (D.state die.old) map.old book.old seq.old) (store (D.state die.new) map.new book.new seq.new) }
+    ensures erased { (victim spare : ℕ) → IsCollectBranch book.old victim spare → EraseEnds (erased_in (state_at book.old spare) spare) result (D.state die.old) (D.state die.new) }
     ensures same_scheme { C.meaning scheme.new ≡ C.meaning scheme.old }
     ensures same_work { work.new ≡ work.old }
     ensures same_room { moves.new ≡ moves.old }

@@ -58,6 +58,7 @@ fn copy_zeros<D: Die>(
     requires fresh { seq.old + 1 < 2 ^ 64 }
     requires zeros { says_zeros header.now ≡ true }
     ensures ends { (meaning : Meaning) (place : Place) → CopyEnds meaning spare page place header.now result (D.state die.old) book.old seq.old (D.state die.new) book.new seq.new }
+    ensures same_erases { (D.state die.new).erases ≡ (D.state die.old).erases }
     ensures kept { Kept (D.state die.old) (D.state die.new) }
     ensures same_work { work.new ≡ work.old }
 {
@@ -122,6 +123,7 @@ fn copy_bytes<D: Die, C: Scheme>(
     requires fresh { seq.old + 1 < 2 ^ 64 }
     requires bytes { says_zeros header.now ≡ false }
     ensures ends { CopyEnds (C.meaning scheme.old) spare page place header.now result (D.state die.old) book.old seq.old (D.state die.new) book.new seq.new }
+    ensures same_erases { (D.state die.new).erases ≡ (D.state die.old).erases }
     ensures kept { Kept (D.state die.old) (D.state die.new) }
     ensures same_scheme { C.meaning scheme.new ≡ C.meaning scheme.old }
     ensures same_work { work.new ≡ work.old }
@@ -172,6 +174,7 @@ pub(crate) fn copy_record<D: Die, C: Scheme>(
     requires is_spare { IsSpare book.old spare }
     requires fresh { seq.old + 1 < 2 ^ 64 }
     ensures ends { CopyEnds (C.meaning scheme.old) spare page place header.now result (D.state die.old) book.old seq.old (D.state die.new) book.new seq.new }
+    ensures same_erases { (D.state die.new).erases ≡ (D.state die.old).erases }
     ensures kept { Kept (D.state die.old) (D.state die.new) }
     ensures same_scheme { C.meaning scheme.new ≡ C.meaning scheme.old }
     ensures same_work { work.new ≡ work.old }

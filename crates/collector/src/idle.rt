@@ -82,6 +82,7 @@ fn move_record<D: Die, C: Scheme>(
     ensures ends { MoveEnds (geometry_of (D.state die.old).shape (C.meaning scheme.old) (length map.old)) (C.meaning scheme.old) live.now page result
         (store (D.state die.old) map.old book.old seq.old)
         (store (D.state die.new) map.new book.new seq.new) }
+    ensures same_erases { (D.state die.new).erases ≡ (D.state die.old).erases }
     ensures same_scheme { C.meaning scheme.new ≡ C.meaning scheme.old }
     ensures same_work { work.new ≡ work.old }
 {

@@ -58,7 +58,7 @@ fn first_on(map: &SectorMap, page: u32, seen: &Seen) -> Option<LiveRecord>
 }
 
 /// The first of the records on these pages, by page and then by slot, that the map names. It reads the pages in order up to that
-/// of the record.
+/// of the record, and fails at the latest there.
 pub(crate) fn find_first<D: Die>(
     die: &mut D,
     work: &mut Work,
@@ -74,7 +74,7 @@ pub(crate) fn find_first<D: Die>(
     ensures same_cells { SameCells (D.state die.old) (D.state die.new) }
     ensures kept { Kept (D.state die.old) (D.state die.new) }
     ensures passed { IfOk result (λ live. Passed 0 (live.place.page + 1 - from) (D.state die.old) (D.state die.new)) }
-    ensures failed { OnErr result (ReadFailed 0 pages (D.state die.old) (D.state die.new)) }
+    ensures failed { OnErr result ((has : HasNamed map.now work.old (D.state die.old) from pages) → ReadFailed 0 (has.live.place.page + 1 - from) (D.state die.old) (D.state die.new)) }
     ensures same_work { work.new ≡ work.old }
 {
     for page in from..from + pages {

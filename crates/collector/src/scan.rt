@@ -56,6 +56,7 @@ fn copy_slot<D: Die, C: Scheme>(
     requires header { header ≡ header_in (geometry_of (D.state die.old).shape (C.meaning scheme.old) (length map.now)) (D.state die.old).cells place }
     ensures ends { (start : Store) → StandsAt (D.state die.old).shape (C.meaning scheme.old) (length map.now) spare start (store (D.state die.old) map.now book.old seq.old) place copies moves.old
         → EndsAt (D.state die.old).shape (C.meaning scheme.old) (length map.now) spare start (store (D.state die.new) map.now book.new seq.new) place.page (place.slot + 1) moves.new result }
+    ensures same_erases { (D.state die.new).erases ≡ (D.state die.old).erases }
     ensures kept { Kept (D.state die.old) (D.state die.new) }
     ensures same_scheme { C.meaning scheme.new ≡ C.meaning scheme.old }
     ensures same_work { work.new ≡ work.old }
@@ -100,6 +101,7 @@ fn copy_seen<D: Die, C: Scheme>(
     requires seen { seen.now ≡ seen_page (D.state die.old).shape.main_bytes (C.meaning scheme.old).generations (page_of (D.state die.old) page) }
     ensures ends { (start : Store) → StandsAt (D.state die.old).shape (C.meaning scheme.old) (length map.now) spare start (store (D.state die.old) map.now book.old seq.old) (first_slot page) copies moves.old
         → EndsAt (D.state die.old).shape (C.meaning scheme.old) (length map.now) spare start (store (D.state die.new) map.now book.new seq.new) page (C.meaning scheme.old).generations moves.new result }
+    ensures same_erases { (D.state die.new).erases ≡ (D.state die.old).erases }
     ensures kept { Kept (D.state die.old) (D.state die.new) }
     ensures same_scheme { C.meaning scheme.new ≡ C.meaning scheme.old }
     ensures same_work { work.new ≡ work.old }
@@ -179,6 +181,7 @@ fn copy_page<D: Die, C: Scheme>(
     ensures ends { (start : Store) → Stands (geometry_of (D.state die.old).shape (C.meaning scheme.old) (length map.now)) (C.meaning scheme.old) spare start
         (store (D.state die.old) map.now book.old seq.old) (first_slot page) (page % (D.state die.old).shape.pages) copies moves.old
         → EndsAt (D.state die.old).shape (C.meaning scheme.old) (length map.now) spare start (store (D.state die.new) map.now book.new seq.new) page (C.meaning scheme.old).generations moves.new result }
+    ensures same_erases { (D.state die.new).erases ≡ (D.state die.old).erases }
     ensures kept { Kept (D.state die.old) (D.state die.new) }
     ensures same_scheme { C.meaning scheme.new ≡ C.meaning scheme.old }
     ensures same_work { work.new ≡ work.old }
@@ -211,6 +214,7 @@ pub(crate) fn copy_block<D: Die, C: Scheme>(
     ensures ends { TurnEnds (geometry_of (D.state die.old).shape (C.meaning scheme.old) (length map.now)) (C.meaning scheme.old).decoding victim spare
         (store (D.state die.old) map.now book.old seq.old) (store (D.state die.new) map.now book.new seq.new)
         ((D.state die.old).shape.pages * (C.meaning scheme.old).generations) (D.state die.old).shape.pages moves.new result }
+    ensures same_erases { (D.state die.new).erases ≡ (D.state die.old).erases }
     ensures kept { Kept (D.state die.old) (D.state die.new) }
     ensures same_scheme { C.meaning scheme.new ≡ C.meaning scheme.old }
     ensures same_work { work.new ≡ work.old }

@@ -49,6 +49,7 @@ pub record PutsAtHand (g : Geometry) (d : Decoding) (page : ℕ) (h : Header) (r
   pub active : state_at old.book block ≡ Active fill
   pub page_is : page ≡ next_page g block fill
   pub next : PutsNext g block fill h old.die.cells new.cells
+  pub erases : new.erases ≡ old.die.erases
   pub says : next_gate g block fill new.cells ≡ true → said_by g d new.cells (Some (record { place = first_slot (next_page g block fill); header = h })) ≡ row
 
 pub at_hand : {Content : (ℕ → List ℕ) → Type 0} (g : Geometry) (d : Decoding) (page : ℕ) (h : Header) (row : List ℕ) (old : Store) (new : DieState) → IsSized g
@@ -78,6 +79,7 @@ at_hand {Content = Content} g d page h row old new sized p shape kept shaped sha
     only = λ q apart. p'.others q (elim (cases_lt q (next_page g block fill)) [ inl below ↦ inl below | inr above ↦ inr (omega (arith, apart)) ]);
   };
   says = subst (λ (q : ℕ). is_gate_charged (drop g.main_bytes (page_of new q)) 0 ≡ true → said_by g d new.cells (Some (record { place = first_slot q; header = h })) ≡ row) page_is says;
+  erases = p.erases;
 }
   where
     page_is : page ≡ next_page g block fill
@@ -121,6 +123,7 @@ module _ (g : Geometry) (d : Decoding) (page : ℕ) (h : Header) (row : List ℕ
       | inl charged ↦ inr (rows_charged charged)
       | inr open' ↦ inl (stored_before_gate g p.block p.fill h old.die.cells new.cells p.next d open')
     ];
+    erases = p.erases;
     failed = failed;
   }
 
@@ -170,5 +173,6 @@ module _ (g : Geometry) (d : Decoding) (page : ℕ) (h : Header) (row : List ℕ
       tables = subst (λ (book : BookValue). IsTrue g new.cells book (slice_set old.table h.sector (Some entry)) (old.seq + 1)) (sym (effect_book entry at))
           (effect_true g p.block p.fill h old.die.cells new.cells p.next charged old.book old.table old.seq p.tables p.active p.drawn entry
           (ap (λ (q : ℕ). entry_of (Some (record { place = first_slot q; header = h }))) (sym p.page_is) ∙ names));
+      erases = p.erases;
       calls = passed;
     }

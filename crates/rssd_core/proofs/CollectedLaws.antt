@@ -1,6 +1,6 @@
 -- A page that a collection gives, and a collection that failed, as the ways to a page at hand.
 use Rattle.std.proofs.Common.{◌≡◌, ◌≢◌, ℕ, ◌+◌, ◌*◌, ◌^◌, ◌<◌, Bool, true, false, List, [], ◌∷◌, length, Option, Some, None, refl, sym, ap, ◌∙◌, subst, arith}
-use Rattle.std.specs.List.{reduce}
+use Rattle.std.specs.List.{reduce, count_by}
 use Rattle.std.proofs.lemmas.Bool.{false≢true}
 use Rattle.cell_die.specs.Calls.{PassedWithin, ReadFailed, ChangeFailed}
 use Rattle.striped.specs.Meaning.{Decoding}
@@ -18,8 +18,11 @@ use Rattle.collector.specs.Effects.{sealed}
 use Rattle.collector.specs.Collections.{Collected, CollectReadFailed, CollectChangeFailed, Marks, as_it_was, erased, copied_to, erased_and_copied_to}
 use Rattle.collector.proofs.Books.{state_here, state_there}
 use Rattle.rssd_core.specs.Rules.{first_block, fewer, victim_of, fill_of, from_active, from_clean, from_victim, next_page}
-use Rattle.rssd_core.specs.BookChanges.{Change, Erases, Copies, Seals, Leads, EachOnce, passes}
-use Rattle.rssd_core.specs.Calls.{calls_before, collection_reads, named_page}
+use Rattle.rssd_core.specs.BookChanges.{Change, Erases, Copies, Seals, Leads, EachOnce, passes, is_offer}
+use Rattle.rssd_core.specs.Calls.{calls_before, collection_reads, copies_due, named_page}
+use Rattle.collector.specs.Erases.{erased_in, ErasedOrBroken}
+use Rattle.rssd_core.specs.Erases.{erase_due, Erased, ErasedOrFailed}
+use Rattle.rssd_core.proofs.ErasesLaws.{broken_failed}
 use Rattle.rssd_core.specs.Moves.{sealed_records}
 use Rattle.rssd_core.specs.Steps.{Opened, OpenReadFailed, OpenChangeFailed}
 use Rattle.rssd_core.specs.Within.{IsCollect}
@@ -65,6 +68,7 @@ record MarksSo (v w : BookValue) : Type 0 where
   leads : (r : ℕ) → Leads r v changes w
   once : EachOnce changes
   passed_so : passes changes ≡ 0
+  none_offered : count_by is_offer changes ≡ 0
   none_sealed : sealed_records v changes ≡ 0
 
 marks_so : (v w : BookValue) (victim spare : ℕ) → spare < length v.states → next_page v ≡ Collect victim spare → Marks v spare w → MarksSo v w
@@ -73,6 +77,7 @@ marks_so _ _ victim spare within next as_it_was = record {
   leads = λ r. leads_none r _;
   once = record { takes = omega arith; wipes = omega arith; erases = omega arith; copies = omega arith; seals = omega arith };
   passed_so = refl;
+  none_offered = refl;
   none_sealed = refl;
 }
 marks_so v _ victim spare within next (erased is) = record {
@@ -80,6 +85,7 @@ marks_so v _ victim spare within next (erased is) = record {
   leads = λ r. leads_one r v (with_state v spare (Spare true)) (Erases spare) ((victim, next), is, refl);
   once = record { takes = omega arith; wipes = omega arith; erases = omega arith; copies = omega arith; seals = omega arith };
   passed_so = refl;
+  none_offered = refl;
   none_sealed = refl;
 }
 marks_so v _ victim spare within next (copied_to is) = record {
@@ -87,6 +93,7 @@ marks_so v _ victim spare within next (copied_to is) = record {
   leads = λ r. leads_one r v (with_state v spare (Spare false)) (Copies spare) ((victim, next), is, refl);
   once = record { takes = omega arith; wipes = omega arith; erases = omega arith; copies = omega arith; seals = omega arith };
   passed_so = refl;
+  none_offered = refl;
   none_sealed = refl;
 }
 marks_so v _ victim spare within next (erased_and_copied_to is) = record {
@@ -97,6 +104,7 @@ marks_so v _ victim spare within next (erased_and_copied_to is) = record {
       ((victim, next_marked v spare false true is ∙ next), state_here v spare (Spare true) within, refl));
   once = record { takes = omega arith; wipes = omega arith; erases = omega arith; copies = omega arith; seals = omega arith };
   passed_so = refl;
+  none_offered = refl;
   none_sealed = refl;
 }
 
@@ -117,18 +125,22 @@ module _ (g : Geometry) (d : Decoding) (victim spare : ℕ) (old new : Store) (t
   none_plus n = omega arith
 
   -- a collection that was sealed
-  pub opened_collect : (page : ℕ) → Collected g d victim spare old new → page ≡ spare * old.book.pages + live_at old.book victim → Opened g d page (live_at old.book victim) old new
-  opened_collect page c at = record {
+  pub opened_collect : (page : ℕ) → Erased (erased_in (state_at old.book spare) spare) old.die new.die → Collected g d victim spare old new → page ≡ spare * old.book.pages + live_at old.book victim → Opened g d page (live_at old.book victim) old new
+  opened_collect page erased_so c at = record {
     changes = Seals victim spare ∷ [];
     leads = λ r. leads_one r old.book new.book (Seals victim spare) (next, c.book);
     once = record { takes = omega arith; wipes = omega arith; erases = omega arith; copies = omega arith; seals = omega arith };
     passed_so = refl;
+    none_offered = refl;
     rises = none_plus (live_at old.book victim);
+    copied = ap (copies_due old.book) (sym next);
     collected = λ x y is. (let same : victim ≡ x = collect_victim x y (sym next ∙ is) in ap (live_at old.book) same);
     named = at ∙ ap (named_page old.book) (sym next);
     branch = subst (λ (v : BookValue). IsPageBranch v page) (sym c.book) (spare, live_at old.book victim, state_spare, at);
     rows = c.rows;
     few = omega (arith, c.seq, few_live);
+    drawn = c.seq;
+    erased = subst (λ (n : NextPage). Erased (erase_due old.book n) old.die new.die) (sym next) erased_so;
     tables = c.tables;
     calls = record {
       within = subst (λ (n : NextPage). PassedWithin (calls_before old.book n) (0 + collection_reads g old.die.cells n) old.die new.die) (sym next)
@@ -150,32 +162,36 @@ module _ (g : Geometry) (d : Decoding) (victim spare : ℕ) (old new : Store) (t
       (subst (λ (r : ℕ). P (calls_before old.book (Collect victim spare)) r) (none_plus (collection_reads g old.die.cells (Collect victim spare))) p)
 
   -- one whose read failed
-  pub collect_unread : CollectReadFailed g d victim spare old new → OpenReadFailed g d 0 0 old new
-  collect_unread f =
+  pub collect_unread : Erased (erased_in (state_at old.book spare) spare) old.die new.die → CollectReadFailed g d victim spare old new → OpenReadFailed g d 0 0 old new
+  collect_unread erased_so f =
       let m = marks_so old.book new.book victim spare spare_within next f.book in
       record {
         changes = m.changes;
         leads = m.leads;
         once = m.once;
         passed_so = m.passed_so;
+        none_offered = m.none_offered;
         none_sealed = m.none_sealed;
         rows = f.rows;
         few = omega (arith, f.seq, f.few, few_live);
+        erased = subst (λ (n : NextPage). Erased (erase_due old.book n) old.die new.die) (sym next) erased_so;
         tables = f.tables;
         failed = calls_so (λ c r. ReadFailed c r old.die new.die) f.failed;
       }
 
   -- one whose change call failed
-  pub collect_failed : CollectChangeFailed g d victim spare old new → OpenChangeFailed g d 0 0 old new
-  collect_failed f =
+  pub collect_failed : ErasedOrBroken (erased_in (state_at old.book spare) spare) old.die new.die → CollectChangeFailed g d victim spare old new → OpenChangeFailed g d 0 0 old new
+  collect_failed erased_so f =
       let m = marks_so old.book new.book victim spare spare_within next f.book in
       record {
         changes = m.changes;
         leads = m.leads;
         once = m.once;
         passed_so = m.passed_so;
+        none_offered = m.none_offered;
         none_sealed = m.none_sealed;
         rows = f.rows;
         few = omega (arith, f.seq, f.few, few_live);
+        erased = subst (λ (n : NextPage). ErasedOrFailed (erase_due old.book n) 0 old.die new.die) (sym next) (broken_failed (erased_in (state_at old.book spare) spare) old.die new.die erased_so);
         failed = calls_so (λ c r. ChangeFailed c r old.die new.die) f.failed;
       }

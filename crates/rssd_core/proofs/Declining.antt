@@ -2,7 +2,7 @@
 use Rattle.std.proofs.Common.{◌≡◌, inl, inr, ℕ, ◌+◌, ◌^◌, ◌<◌, ◌≤◌, true, false, List, [], ◌∷◌, Option, refl, sym, ap, ap₂, ◌∙◌, subst, arith}
 use Rattle.std.proofs.lemmas.Option.{same_Some}
 use Rattle.cell_die.specs.Calls.{Passed, PassedWithin, ChangeFailed, ReadFailed}
-use Rattle.cell_die.proofs.Sequences.{passed_trans, passed_within, change_failed_after, read_failed_after}
+use Rattle.cell_die.proofs.Sequences.{passed_trans, passed_within, change_failed_after, read_failed_after, read_failed_within}
 use Rattle.block_state.specs.Book.{BookValue, live_at}
 use Rattle.page_alloc.specs.declared.next_page.NextPage.{NextPage}
 use Rattle.reuse_pool.specs.declared.unit.ReuseUnit.{ReuseUnit}
@@ -13,8 +13,10 @@ use Rattle.page_codec.specs.Sound.{IsSound}
 use Rattle.collector.specs.Store.{Store, IsTrueStore}
 use Rattle.collector.specs.Store as stores
 use Rattle.rssd_core.specs.Rules.{next_page, offer_of}
-use Rattle.rssd_core.specs.BookChanges.{Change, Passes, Offers, Leads, EachOnce, is_pass}
-use Rattle.rssd_core.specs.Calls.{calls_before, collection_reads, named_page, offer_reads}
+use Rattle.rssd_core.specs.BookChanges.{Change, Passes, Offers, Leads, EachOnce, is_pass, is_offer}
+use Rattle.rssd_core.specs.Calls.{calls_before, collection_reads, copies_due, named_page, offer_reads}
+use Rattle.rssd_core.specs.Erases.{erase_due, Erased, ErasedOrFailed}
+use Rattle.rssd_core.proofs.ErasesLaws.{erased_after, failed_after}
 use Rattle.rssd_core.specs.DeviceValue.{Numbers}
 use Rattle.rssd_core.specs.Moves.{sealed_records}
 use Rattle.rssd_core.specs.Outcomes.{WriteFault}
@@ -22,7 +24,7 @@ use Rattle.rssd_core.specs.Steps.{Opened, OpenedAfter, OpenReadFailed, OpenChang
 use Rattle.rssd_core.specs.Within.{Went, IsCollect}
 use Rattle.rssd_core.specs.Writes.{OfferCarries, OfferDeclines, CanCarry}
 use Rattle.rssd_core.proofs.Chained.{leads_append, leads_one, leads_none, within_trans, read_failed_no_cut, count_by-append}
-use Rattle.rssd_core.proofs.PassedBook.{next_same, calls_same, sealed_same}
+use Rattle.rssd_core.proofs.PassedBook.{next_same, calls_same, due_same, copies_same, sealed_same}
 use Rattle.rssd_core.proofs.Rules.{offer_is}
 use Rattle.rssd_core.proofs.WroteFirst.{view_at, moves_seq}
 
@@ -55,6 +57,12 @@ module _ (d : Numbers) (unit : ReuseUnit) (bytes : List ℕ) (old start : Store)
   calls_are : calls_before start.book (next_page start.book) ≡ calls_before old.book (next_page old.book)
   calls_are = ap₂ calls_before book_is next_is_same ∙ calls_same old.book unit offer (next_page old.book) refl
 
+  due_is : erase_due start.book (next_page start.book) ≡ erase_due old.book (next_page old.book)
+  due_is = ap₂ erase_due book_is next_is_same ∙ due_same old.book unit offer (next_page old.book) refl
+
+  copies_are : copies_due start.book (next_page start.book) ≡ copies_due old.book (next_page old.book)
+  copies_are = ap₂ copies_due book_is next_is_same ∙ copies_same old.book (passing old.book unit) refl (next_page old.book)
+
   reads_are : collection_reads d.geometry start.die.cells (next_page start.book) ≡ collection_reads d.geometry old.die.cells (next_page old.book)
   reads_are = ap₂ (λ (cells : List (List ℕ)) (n : NextPage). collection_reads d.geometry cells n) o.cells.cells next_is_same
 
@@ -74,12 +82,16 @@ module _ (d : Numbers) (unit : ReuseUnit) (bytes : List ℕ) (old start : Store)
     leads = λ r. leads_pass r p.changes mid.book (p.leads r);
     once = once_pass p.changes p.once;
     passed_so = omega (arith, p.passed_so, count_by-append is_pass (Passes unit ∷ []) p.changes);
+    none_offered = omega (arith, p.none_offered, count_by-append is_offer (Passes unit ∷ []) p.changes);
     rises = p.rises ∙ sym (sealed_are p.changes);
+    copied = p.copied ∙ copies_are;
     collected = λ victim spare is. p.collected victim spare (next_is_same ∙ is) ∙ ap (λ (v : BookValue). live_at v victim) book_is;
     named = p.named ∙ (ap₂ named_page book_is next_is_same);
     branch = p.branch;
     rows = p.rows ∙ ap (stored d.geometry d.meaning.decoding) o.cells.cells;
     few = omega (arith, p.few, seq_is);
+    drawn = omega (arith, p.drawn, seq_is);
+    erased = erased_after (erase_due old.book (next_page old.book)) old.die start.die mid.die o.cells.erases (subst (λ (due : Option ℕ). Erased due start.die mid.die) due_is p.erased);
     tables = p.tables;
     calls = record {
       within = subst (λ (r : ℕ). PassedWithin (calls_before old.book (next_page old.book)) r old.die mid.die) (plus d.geometry.span)
@@ -117,9 +129,11 @@ module _ (d : Numbers) (unit : ReuseUnit) (bytes : List ℕ) (old start : Store)
     leads = λ r. leads_pass r f.changes new.book (f.leads r);
     once = once_pass f.changes f.once;
     passed_so = omega (arith, f.passed_so, count_by-append is_pass (Passes unit ∷ []) f.changes);
+    none_offered = omega (arith, f.none_offered, count_by-append is_offer (Passes unit ∷ []) f.changes);
     none_sealed = sealed_are f.changes ∙ f.none_sealed;
     rows = f.rows ∙ ap (stored d.geometry d.meaning.decoding) o.cells.cells;
     few = omega (arith, f.few, seq_is);
+    erased = erased_after (erase_due old.book (next_page old.book)) old.die start.die new.die o.cells.erases (subst (λ (due : Option ℕ). Erased due start.die new.die) due_is f.erased);
     tables = f.tables;
     failed = failed_calls (λ c r. ReadFailed c r old.die new.die) (read_failed_after o.calls f.failed);
   }
@@ -131,9 +145,11 @@ module _ (d : Numbers) (unit : ReuseUnit) (bytes : List ℕ) (old start : Store)
     leads = λ r. leads_pass r f.changes new.book (f.leads r);
     once = once_pass f.changes f.once;
     passed_so = omega (arith, f.passed_so, count_by-append is_pass (Passes unit ∷ []) f.changes);
+    none_offered = omega (arith, f.none_offered, count_by-append is_offer (Passes unit ∷ []) f.changes);
     none_sealed = sealed_are f.changes ∙ f.none_sealed;
     rows = λ sound. f.rows (subst (IsSound d.geometry) (sym o.cells.cells) sound) ∙ ap (stored d.geometry d.meaning.decoding) o.cells.cells;
     few = omega (arith, f.few, seq_is);
+    erased = failed_after (erase_due old.book (next_page old.book)) d.geometry.span old.die start.die new.die o.cells.erases o.calls (subst (λ (due : Option ℕ). ErasedOrFailed due 0 start.die new.die) due_is f.erased);
     failed = failed_calls (λ c r. ChangeFailed c r old.die new.die) (change_failed_after o.calls f.failed);
   }
 
@@ -155,10 +171,14 @@ over_read_failed d sector unit bytes old new book first second declined moved fr
     rows = ap (stored d.geometry d.meaning.decoding) f.cells.cells;
     running = refl;
   });
+  erased = record {
+    over = λ carries. f.cells.erases;
+    clean = λ cannot. inr (f.cells.erases, inl (read_failed_within 0 (offer_reads d.geometry (offer_of old.book)) (omega arith) (offer_reads_are d unit old offer) f.failed));
+  };
   book = record {
     changes = Offers ∷ [];
     leads = leads_one d.reuse_max old.book book Offers (subst (λ (v : BookValue). Recycles d.reuse_max v book) (ap (λ (s : Store). s.book) f.same) recycles);
-    may = (omega arith, record { takes = omega arith; wipes = omega arith; erases = omega arith; copies = omega arith; seals = omega arith });
+    may = (omega arith, record { takes = omega arith; wipes = omega arith; erases = omega arith; copies = omega arith; seals = omega arith }, record { before = []; last = refl; none_before = refl });
     rise = 0;
     rises = refl;
     tally = omega arith;
@@ -169,12 +189,12 @@ over_read_failed d sector unit bytes old new book first second declined moved fr
 }
 
 -- a change call failed: the device stops
-pub over_change_failed : (d : Numbers) (sector kind : ℕ) (unit : ReuseUnit) (bytes : List ℕ) (old new : Store) (first second declined moved : ℕ) → old.seq < 2 ^ 62 → moved < 2 ^ 64
-    → IsOffer old.book unit → stores.Holds d.geometry old new → OverChangeFailed d.geometry d.meaning.decoding unit (record { sector = sector; seq = old.seq; kind = kind }) bytes old new
+pub over_change_failed : (d : Numbers) (sector : ℕ) (unit : ReuseUnit) (bytes : List ℕ) (old new : Store) (first second declined moved : ℕ) → old.seq < 2 ^ 62 → moved < 2 ^ 64
+    → IsOffer old.book unit → stores.Holds d.geometry old new → OverChangeFailed d.geometry d.meaning.decoding unit (record { sector = sector; seq = old.seq; kind = 1 }) bytes old new
     → WriteFault d sector bytes
     (record { numbers = d; view = view_at old first second declined moved; stopped = false })
     (record { numbers = d; view = view_at new first second declined moved; stopped = true })
-over_change_failed d sector kind unit bytes old new first second declined moved fresh few_moved offer holds f = record {
+over_change_failed d sector unit bytes old new first second declined moved fresh few_moved offer holds f = record {
   fresh = fresh;
   fault = inr (record {
     changes = d.geometry.span + 1;
@@ -184,10 +204,11 @@ over_change_failed d sector kind unit bytes old new first second declined moved 
     rows = λ sound. f.rows;
     stopped = refl;
   });
+  erased = record { over = λ _. f.erases; clean = λ cannot. absurd (cannot carries) };
   book = record {
     changes = [];
     leads = subst (λ (v : BookValue). Leads d.reuse_max old.book [] v) (sym (ap (λ (s : Store). s.book) f.same)) (leads_none d.reuse_max old.book);
-    may = (omega arith, record { takes = omega arith; wipes = omega arith; erases = omega arith; copies = omega arith; seals = omega arith });
+    may = (omega arith, record { takes = omega arith; wipes = omega arith; erases = omega arith; copies = omega arith; seals = omega arith }, refl);
     rise = 0;
     rises = refl;
     tally = omega arith;

@@ -12,6 +12,8 @@ use Rattle.collector.specs.Store as stores
 use Rattle.rssd_core.specs.Rules.{next_page, offer_of}
 use Rattle.rssd_core.specs.BookChanges.{Offers, Leads, is_pass}
 use Rattle.rssd_core.specs.Calls.{calls_before, collection_calls, collection_reads, offer_reads}
+use Rattle.rssd_core.specs.Erases.{erase_due}
+use Rattle.rssd_core.proofs.ErasesLaws.{erased_then, failed_within}
 use Rattle.rssd_core.specs.DeviceValue.{Numbers}
 use Rattle.rssd_core.specs.Failures.{cut_of}
 use Rattle.rssd_core.specs.Outcomes.{WriteFault}
@@ -40,10 +42,11 @@ put_failed d sector page rise kind passed before bytes old mid new first second 
     rows = λ sound. elim f.rows [ inl same ↦ inl (same ∙ o.rows) | inr done ↦ inr (done ∙ ap (λ (rows : List (List ℕ)). slice_set rows sector bytes) o.rows) ];
     stopped = refl;
   });
+  erased = record { over = λ carries. absurd (cannot carries); clean = λ _. inl (erased_then (erase_due old.book (next_page old.book)) old.die mid.die new.die o.erased f.erases) };
   book = record {
     changes = o.changes;
     leads = subst (λ (v : BookValue). Leads d.reuse_max old.book o.changes v) (sym (ap (λ (s : Store). s.book) f.same)) (o.leads d.reuse_max);
-    may = (omega (arith, o.passed_so), o.once);
+    may = (omega (arith, o.passed_so), o.once, o.none_offered);
     rise = rise;
     rises = o.rises;
     tally = refl;
@@ -78,10 +81,11 @@ open_failed d sector passed before bytes old new first second declined moved fre
     rows = λ sound. inl (f.rows sound);
     stopped = refl;
   });
+  erased = record { over = λ carries. absurd (cannot carries); clean = λ _. failed_within (erase_due old.book (next_page old.book)) before (offer_reads d.geometry (offer_of old.book)) old.die new.die few_before f.erased };
   book = record {
     changes = f.changes;
     leads = f.leads d.reuse_max;
-    may = (omega (arith, f.passed_so), f.once);
+    may = (omega (arith, f.passed_so), f.once, f.none_offered);
     rise = 0;
     rises = sym f.none_sealed;
     tally = omega arith;
@@ -118,10 +122,11 @@ open_read_failed d sector passed before bytes old new book first second declined
     rows = f.rows;
     running = refl;
   });
+  erased = record { over = λ carries. absurd (cannot carries); clean = λ _. inl f.erased };
   book = record {
     changes = f.changes ++ (Offers ∷ []);
     leads = leads_append d.reuse_max old.book new.book book f.changes (Offers ∷ []) (f.leads d.reuse_max) (leads_one d.reuse_max new.book book Offers recycles);
-    may = (omega (arith, count_by-append is_pass f.changes (Offers ∷ []), f.passed_so), once_append f.changes (Offers ∷ []) f.once (refl, refl, refl, refl, refl));
+    may = (omega (arith, count_by-append is_pass f.changes (Offers ∷ []), f.passed_so), once_append f.changes (Offers ∷ []) f.once (refl, refl, refl, refl, refl), record { before = f.changes; last = refl; none_before = f.none_offered });
     rise = 0;
     rises = sym (sealed_offers old.book f.changes ∙ f.none_sealed);
     tally = omega arith;

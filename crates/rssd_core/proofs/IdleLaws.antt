@@ -3,16 +3,19 @@ use Rattle.std.proofs.Common.{◌≡◌, ◌⊎◌, inl, inr, ℕ, ◌+◌, ◌*
 use Rattle.std.proofs.lemmas.List.Elements.{All-push}
 use Rattle.std.proofs.lemmas.Bool.{false≢true}
 use Rattle.cell_die.specs.Counts.{count_sum}
+use Rattle.cell_die.proofs.Sequences.{change_failed_within}
 use Rattle.cell_die.specs.Calls.{PassedWithin, ReadFailed, ChangeFailed}
 use Rattle.sector_map.specs.declared.entry.Entry.{Entry}
 use Rattle.block_state.specs.Book.{BookValue}
+use Rattle.block_state.specs.Victim.{IsIdleVictim}
 use Rattle.reuse_pool.specs.Recycling.{Recycles}
-use Rattle.page_codec.specs.Geometry.{units}
+use Rattle.page_codec.specs.Geometry.{Geometry, units}
 use Rattle.page_codec.specs.Records.{live_record}
 use Rattle.page_codec.specs.Sectors.{stored}
 use Rattle.page_codec.specs.TrueBook.{IsTrueBook}
 use Rattle.mount_scan.proofs.TrueRun.{true_book_by_run}
-use Rattle.collector.specs.Moves.{MoveReadFailed, MoveChangeFailed, move_reads}
+use Rattle.collector.specs.Moves.{IsRoom, MoveReadFailed, MoveChangeFailed}
+use Rattle.rssd_core.specs.Calls.{move_reads}
 use Rattle.collector.specs.Store.{Store, IsTrueStore}
 use Rattle.collector.specs.Store as stores
 use Rattle.rssd_core.specs.BookChanges.{Change, Offers, Leads, is_idle}
@@ -24,8 +27,8 @@ use Rattle.rssd_core.specs.Within.{Finished}
 use Rattle.rssd_core.proofs.Chained.{holds_trans, leads_append, leads_one, no_cut_came, change_failed_then, cut_later, cut_within, read_failed_no_cut}
 use Rattle.rssd_core.proofs.IdleCalls.{read_failed_then}
 use Rattle.rssd_core.proofs.ByRule.{moment, rule_none}
-use Rattle.rssd_core.proofs.IdleLeft.{none_left_after, none_left_by}
-use Rattle.rssd_core.proofs.IdleRun.{FillsOnly, RanByRule, run_holds, run_rows, run_seq, run_tables, run_calls, run_fills, run_order, run_by_rule, run_few}
+use Rattle.rssd_core.proofs.IdleLeft.{none_left_after, none_left_by, room_is}
+use Rattle.rssd_core.proofs.IdleRun.{FillsOnly, RanByRule, run_holds, run_rows, run_seq, run_tables, run_calls, run_erases, few_reads, some_pages, run_fills, run_order, run_by_rule, run_few}
 use Rattle.rssd_core.proofs.WroteFirst.{view_at, moves_seq}
 
 -- a device over a store, with these tallies
@@ -69,7 +72,7 @@ holds_stopped d old new first second declined moved first' second' declined' mov
 
 module _ (d : Numbers) (k : ℕ) (old mid : Store) (t : IsTrueStore d.geometry old) (run : MovesRun d.geometry d.meaning.decoding k old mid) where
   calls : PassedWithin (2 * k) (k * move_reads d.geometry) old.die mid.die
-  calls = run_calls d.geometry d.meaning.decoding k old mid run
+  calls = run_calls d.geometry d.meaning.decoding k old mid run t
 
   abbrev fills : FillsOnly old.book mid.book
   fills = run_fills d.geometry d.meaning.decoding k old mid run t
@@ -134,6 +137,7 @@ idled d n k old new book first second declined moved stopped t e recycles = reco
     | inr spent ↦ inr spent
   ];
   moves = moves d k old new t e.run first second declined moved (count_sum moved k) book recycles;
+  erases = run_erases d.geometry d.meaning.decoding k old new e.run;
   calls = calls d k old new t e.run;
   book = record {
     changes = recycled_changes d k old new t e.run;
@@ -151,6 +155,11 @@ idled d n k old new book first second declined moved stopped t e recycles = reco
 }
 
 -- ---- a call failed
+
+-- the room that an idle victim fits has a page
+room_pages : (g : Geometry) (s : Store) → IsTrueStore g s → (room victim : ℕ) → IsRoom s.book room → IsIdleVictim s.book room victim → 0 < g.pages
+room_pages g s t room victim (inl (block, fill, active, is)) fits = some_pages g s block fill t active
+room_pages g s t room victim (inr (none, empty)) fits = absurd (omega (arith, fits.0.enough, fits.1, empty))
 
 -- the moves that were finished, and the one that was not
 unfinished : (d : Numbers) (n k : ℕ) (old new : Store) (Failed : Store → Type 0) (first second declined moved : ℕ) (after : DeviceView) → IsTrueStore d.geometry old
@@ -197,7 +206,16 @@ idle_read_failed d n k old new book first second declined moved stopped t e recy
     running = refl;
   });
   moves = unfinished d n k old new (λ mid. MoveReadFailed d.geometry mid new) first second declined moved (view_at (with_book new book) first second declined (count_sum moved k)) t e finished
-      (inl (record { cells = e.failed.cells; seq = ap (λ (s : Store). s.seq) e.failed.same; recycled = recycled; failed = e.failed.failed }));
+      (inl (record {
+        cells = e.failed.cells;
+        seq = ap (λ (s : Store). s.seq) e.failed.same;
+        recycled = recycled;
+        victim = e.failed.victim;
+        is_victim = subst (λ (room : ℕ). IsIdleVictim e.mid.book room e.failed.victim) (sym (room_is e.mid.book (run_tables d.geometry d.meaning.decoding k old e.mid e.run t).kept e.failed.room e.failed.is_room)) e.failed.is_victim;
+        failed = e.failed.failed;
+        by_then = e.failed.by_then;
+      }));
+  erases = e.failed.cells.erases ∙ run_erases d.geometry d.meaning.decoding k old e.mid e.run;
   book = record {
     changes = recycled_changes d k old e.mid t e.run;
     leads = leads_recycled d k old e.mid t e.run book recycled;
@@ -242,7 +260,17 @@ idle_change_failed d n k old new first second declined moved stopped t e = recor
     stopped = refl;
   });
   moves = unfinished d n k old new (λ mid. MoveChangeFailed d.geometry d.meaning.decoding mid new) first second declined moved (view_at new first second declined (count_sum moved k)) t e finished
-      (inr (record { rows = e.failed.rows; seq = ap (λ (s : Store). s.seq) e.failed.same; book = ap (λ (s : Store). s.book) e.failed.same; failed = e.failed.failed }));
+      (inr (record {
+        rows = e.failed.rows;
+        seq = ap (λ (s : Store). s.seq) e.failed.same;
+        book = ap (λ (s : Store). s.book) e.failed.same;
+        victim = e.failed.victim;
+        is_victim = subst (λ (room : ℕ). IsIdleVictim e.mid.book room e.failed.victim) (sym (room_is e.mid.book (run_tables d.geometry d.meaning.decoding k old e.mid e.run t).kept e.failed.room e.failed.is_room)) e.failed.is_victim;
+        first = e.failed.first;
+        is_first = e.failed.is_first;
+        failed = e.failed.failed;
+      }));
+  erases = e.failed.erases ∙ run_erases d.geometry d.meaning.decoding k old e.mid e.run;
   book = record {
     changes = (fills d k old e.mid t e.run).changes;
     leads = subst (Leads d.reuse_max old.book (fills d k old e.mid t e.run).changes) (sym (ap (λ (s : Store). s.book) e.failed.same)) ((fills d k old e.mid t e.run).leads d.reuse_max);
@@ -251,7 +279,7 @@ idle_change_failed d n k old new first second declined moved stopped t e = recor
     rises = finished;
     tally = refl;
     at_cut = λ power came. (
-      cut_later (2 * k) (k * move_reads d.geometry) 2 (move_reads d.geometry) old.die e.mid.die new.die (calls d k old e.mid t e.run) e.failed.failed power came,
+      cut_later (2 * k) (k * move_reads d.geometry) 2 (move_reads d.geometry) old.die e.mid.die new.die (calls d k old e.mid t e.run) one_failed power came,
       cut_within (2 * k + 2) (k * move_reads d.geometry + move_reads d.geometry) old.die new.die failed power came,
     );
   };
@@ -263,8 +291,14 @@ idle_change_failed d n k old new first second declined moved stopped t e = recor
     seq_now : new.seq ≡ old.seq + k + 1
     seq_now = ap (λ (s : Store). s.seq) e.failed.same ∙ ap (λ (n : ℕ). n + 1) (seq_is d k old e.mid t e.run)
 
+    tables : IsTrueStore d.geometry e.mid
+    tables = run_tables d.geometry d.meaning.decoding k old e.mid e.run t
+
+    one_failed : ChangeFailed 2 (move_reads d.geometry) e.mid.die new.die
+    one_failed = change_failed_within 2 (move_reads d.geometry) (omega arith) (few_reads d.geometry e.mid.die.cells e.failed.victim e.failed.first (room_pages d.geometry e.mid tables e.failed.room e.failed.victim e.failed.is_room e.failed.is_victim) e.failed.is_first) e.failed.failed
+
     failed : ChangeFailed (2 * k + 2) (k * move_reads d.geometry + move_reads d.geometry) old.die new.die
-    failed = change_failed_then (2 * k) (k * move_reads d.geometry) 2 (move_reads d.geometry) old.die e.mid.die new.die (calls d k old e.mid t e.run) e.failed.failed
+    failed = change_failed_then (2 * k) (k * move_reads d.geometry) 2 (move_reads d.geometry) old.die e.mid.die new.die (calls d k old e.mid t e.run) one_failed
 
     more_reads : (m : ℕ) → k * m + m ≤ (k + 1) * m
     more_reads m = omega arith

@@ -106,7 +106,7 @@ none_left_after few v w run left = left_by_run few v w run left (room_left w) (i
 pub room_active : (v : BookValue) → IsValid v → (block fill : ℕ) → state_at v block ≡ Active fill → room_left v ≡ v.pages - fill
 room_active v valid block fill active = ap (room_in v) (rules.active_is v valid block (ap is_active active)) ∙ ap (λ (s : State). v.pages - fill_of s) active
 
-room_is : (v : BookValue) → IsValid v → (room : ℕ) → IsRoom v room → room_left v ≡ room
+pub room_is : (v : BookValue) → IsValid v → (room : ℕ) → IsRoom v room → room_left v ≡ room
 room_is v valid room (inl (block, fill, active, is)) = room_active v valid block fill active ∙ sym is
 room_is v valid room (inr (none, is)) = ap (room_in v) (rules.first_none v is_active (λ b within hit. none b hit)) ∙ sym is
 

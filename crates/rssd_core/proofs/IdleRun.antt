@@ -1,10 +1,13 @@
 -- What the moves of an idle call, one after another, leave.
 use Rattle.std.proofs.Common.{◌≡◌, ◌≢◌, ◌⊎◌, inl, inr, ℕ, ◌+◌, ◌*◌, ◌<◌, ◌≤◌, true, if◌then◌else◌, List, [], ◌∷◌, ◌++◌, length, length-append, Option, Some, refl, sym, ap, ◌∙◌, subst, arith}
-use Rattle.std.specs.Prelude.{slice_index}
+use Rattle.std.specs.Prelude.{slice_index, max, ◌/◌, ◌-◌, ◌==◌, Bool, false}
 use Rattle.std.specs.List.{All, Contains}
 use Rattle.std.proofs.lemmas.Bool.{cases_eq, cases_lt, eq-eqb, ne_eqb, false≢true}
 use Rattle.std.proofs.lemmas.List.Elements.{All-push, All-nil, Contains-append_left, Contains-append_right}
 use Rattle.std.proofs.lemmas.List.{get_or_append_left}
+use Rattle.std.proofs.lemmas.Nat.{div-add-mod', mod_below}
+use Rattle.page_codec.specs.Sectors.{says_zeros}
+use Rattle.cell_die.specs.DieState.{DieState}
 use Rattle.std.proofs.Math.Seq.{get_or-append_seam}
 use Rattle.cell_die.specs.Calls.{PassedWithin}
 use Rattle.cell_die.proofs.Sequences.{kept_refl, passed_none, passed_within}
@@ -12,7 +15,7 @@ use Rattle.zero_count.specs.declared.Header.{Header}
 use Rattle.striped.specs.Meaning.{Decoding}
 use Rattle.block_state.specs.declared.state.State.{State}
 use Rattle.block_state.specs.declared.state.State.TheVariants.{Active, Used}
-use Rattle.block_state.specs.State.{is_active, is_closed}
+use Rattle.block_state.specs.State.{is_active, is_closed, InRange}
 use Rattle.block_state.specs.Book.{BookValue, NoneActive, state_at, with_state}
 use Rattle.page_alloc.specs.declared.next_page.NextPage.TheVariants.{Page}
 use Rattle.page_codec.specs.Geometry.{Geometry, block_of}
@@ -20,11 +23,12 @@ use Rattle.page_codec.specs.Puts.{first_slot}
 use Rattle.page_codec.specs.Records.{Placed, live_record}
 use Rattle.page_codec.specs.TrueBook.{IsTrueState}
 use Rattle.collector.specs.Effects as effects
-use Rattle.collector.specs.Moves.{Moved, move_reads, plain_kind}
+use Rattle.collector.specs.Moves.{Moved, IsFirstLive, plain_kind}
 use Rattle.collector.specs.Store.{Store, IsTrueStore, SameRows, Holds}
 use Rattle.collector.proofs.Books.{recorded_states, active_within, state_here, state_there}
 use Rattle.collector.proofs.Tables.{filled_is, next_state}
 use Rattle.rssd_core.specs.BookChanges.{Change, Fills, Leads, filled_in, is_idle}
+use Rattle.rssd_core.specs.Calls.{move_reads, reads_of_move}
 use Rattle.rssd_core.specs.Rules.{fill_of, first_block, next_page}
 use Rattle.rssd_core.specs.DeviceValue.{Numbers}
 use Rattle.rssd_core.specs.Idle.{MovesRun, none, more}
@@ -55,16 +59,57 @@ pub run_tables : (g : Geometry) (d : Decoding) (k : ℕ) (old new : Store) → M
 run_tables g d _ _ _ (none old) t = t
 run_tables g d _ _ _ (more k old mid new run moved holds) t = moved.tables
 
-pub run_calls : (g : Geometry) (d : Decoding) (k : ℕ) (old new : Store) → MovesRun g d k old new → PassedWithin (2 * k) (k * move_reads g) old.die new.die
-run_calls g d _ _ _ (none old) = subst (λ (r : ℕ). PassedWithin 0 r old.die old.die) (no_times (move_reads g)) (passed_within 0 (omega arith) (passed_none old.die))
+pub run_erases : (g : Geometry) (d : Decoding) (k : ℕ) (old new : Store) → MovesRun g d k old new → new.die.erases ≡ old.die.erases
+run_erases g d _ _ _ (none old) = refl
+run_erases g d _ _ _ (more k old mid new run moved holds) = moved.erases ∙ run_erases g d k old mid run
+
+-- the reads of a move are at most those of all pages of its block and of getting a record
+pub few_reads : (g : Geometry) (cells : List (List ℕ)) (victim : ℕ) (first : Placed) → 0 < g.pages → IsFirstLive g cells victim first → reads_of_move g victim first ≤ move_reads g
+few_reads g cells victim first some is = omega (arith, high, gets (says_zeros first.header) (first.place.slot == 0))
+  where
+    high : first.place.page < victim * g.pages + g.pages
+    high = subst (λ (b : ℕ). first.place.page < b * g.pages + g.pages) is.inside (below first.place.page g.pages some)
+      where
+        below : (p w : ℕ) → 0 < w → p < p / w * w + w
+        below p w some = omega (arith, div-add-mod' p w, mod_below p w some)
+
+    gets : (z s : Bool) → (if z then 0 else (if s then 1 else g.span)) ≤ max 1 g.span
+    gets true s = omega arith
+    gets false true = omega arith
+    gets false false = omega arith
+
+-- an Active block has a page
+pub some_pages : (g : Geometry) (s : Store) (block fill : ℕ) → IsTrueStore g s → state_at s.book block ≡ Active fill → 0 < g.pages
+some_pages g s block fill t active =
+    let room : fill < s.book.pages = subst (InRange s.book.pages s.book.units s.book.generations) active (t.kept.in_range block) in
+    omega (arith, room, t.sizes.pages)
+
+-- a bound on the reads may be greater
+pub more_within : (c r reads : ℕ) (old new : DieState) → r ≤ reads → PassedWithin c r old new → PassedWithin c reads old new
+more_within c r reads old new few w =
+    subst (λ (n : ℕ). PassedWithin n reads old new) (plus_none c)
+    (subst (λ (n : ℕ). PassedWithin (c + 0) n old new) (up few) (within_trans c r 0 (reads - r) old new new w (passed_within (reads - r) (omega arith) (passed_none new))))
+  where
+    plus_none : (n : ℕ) → n + 0 ≡ n
+    plus_none n = omega arith
+
+    up : r ≤ reads → r + (reads - r) ≡ reads
+    up few = omega arith
+
+pub run_calls : (g : Geometry) (d : Decoding) (k : ℕ) (old new : Store) → MovesRun g d k old new → IsTrueStore g old → PassedWithin (2 * k) (k * move_reads g) old.die new.die
+run_calls g d _ _ _ (none old) t = subst (λ (r : ℕ). PassedWithin 0 r old.die old.die) (no_times (move_reads g)) (passed_within 0 (omega arith) (passed_none old.die))
   where
     no_times : (m : ℕ) → 0 ≡ 0 * m
     no_times m = omega arith
-run_calls g d _ _ _ (more k old mid new run moved holds) =
+run_calls g d _ _ _ (more k old mid new run moved holds) t =
     subst (λ (c : ℕ). PassedWithin c ((k + 1) * move_reads g) old.die new.die) changes
     (subst (λ (r : ℕ). PassedWithin (2 * k + 2) r old.die new.die) reads
-    (within_trans (2 * k) (k * move_reads g) 2 (move_reads g) old.die mid.die new.die (run_calls g d k old mid run) moved.calls))
+    (within_trans (2 * k) (k * move_reads g) 2 (move_reads g) old.die mid.die new.die (run_calls g d k old mid run t) one))
   where
+    one : PassedWithin 2 (move_reads g) mid.die new.die
+    one = more_within 2 (reads_of_move g moved.victim moved.first) (move_reads g) mid.die new.die
+        (few_reads g mid.die.cells moved.victim moved.first (some_pages g mid moved.block moved.fill (run_tables g d k old mid run t) moved.active) moved.is_first) moved.calls
+
     changes : 2 * k + 2 ≡ 2 * (k + 1)
     changes = omega arith
 

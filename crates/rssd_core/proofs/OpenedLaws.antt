@@ -16,7 +16,9 @@ use Rattle.collector.specs.Store.{Store, IsTrueStore, geometry_of}
 use Rattle.collector.proofs.Books.{state_here}
 use Rattle.rssd_core.specs.Rules.{next_page}
 use Rattle.rssd_core.specs.BookChanges.{Takes, Wipes}
-use Rattle.rssd_core.specs.Calls.{calls_before, collection_reads, named_page}
+use Rattle.rssd_core.specs.Calls.{calls_before, collection_reads, copies_due, named_page}
+use Rattle.rssd_core.specs.Erases.{erase_due, Erased, ErasedOrFailed}
+use Rattle.rssd_core.proofs.ErasesLaws.{whole_erased, torn_erased}
 use Rattle.rssd_core.specs.Steps.{IsSized, Opened, OpenChangeFailed}
 use Rattle.rssd_core.specs.Within.{Went, IsCollect}
 use Rattle.rssd_core.proofs.Chained.{leads_none, leads_one, went_passed}
@@ -43,12 +45,16 @@ opened_page g d page old t branch = record {
   leads = λ reuse_max. leads_none reuse_max old.book;
   once = record { takes = omega arith; wipes = omega arith; erases = omega arith; copies = omega arith; seals = omega arith };
   passed_so = refl;
+  none_offered = refl;
   rises = refl;
+  copied = ap (copies_due old.book) (sym next);
   collected = λ victim spare is. absurd (not_collected (Page page) (λ x. x) victim spare (sym next ∙ is));
   named = ap (named_page old.book) (sym next);
   branch = branch;
   rows = refl;
   few = omega arith;
+  drawn = omega arith;
+  erased = subst (λ (n : NextPage). Erased (erase_due old.book n) old.die old.die) (sym next) refl;
   tables = t;
   calls = calls_of g old old (Page page) next (went_passed 0 0 ⊥ old.die old.die (passed_none old.die));
 }
@@ -63,12 +69,16 @@ opened_take g d block page old sized t take at = record {
   leads = λ reuse_max. leads_one reuse_max old.book (with_state old.book block (Active 0)) (Takes block) (next, refl);
   once = record { takes = omega arith; wipes = omega arith; erases = omega arith; copies = omega arith; seals = omega arith };
   passed_so = refl;
+  none_offered = refl;
   rises = refl;
+  copied = ap (copies_due old.book) (sym next);
   collected = λ victim spare is. absurd (not_collected (Take block) (λ x. x) victim spare (sym next ∙ is));
   named = at ∙ ap (named_page old.book) (sym next);
   branch = (block, 0, state_here old.book block (Active 0) take.1.0, at ∙ plus_none (block * old.book.pages));
   rows = refl;
   few = omega arith;
+  drawn = omega arith;
+  erased = subst (λ (n : NextPage). Erased (erase_due old.book n) old.die old.die) (sym next) refl;
   tables = take_true g old.die.cells old.book old.table old.seq block sized t take;
   calls = calls_of g old (record old { book = with_state old.book block (Active 0) }) (Take block) next (went_passed 0 0 ⊥ old.die old.die (passed_none old.die));
 }
@@ -86,12 +96,16 @@ opened_wipe g d block page old die e erased passed t wipe at = record {
   leads = λ reuse_max. leads_one reuse_max old.book (with_state old.book block (Active 0)) (Wipes block) (next, refl);
   once = record { takes = omega arith; wipes = omega arith; erases = omega arith; copies = omega arith; seals = omega arith };
   passed_so = refl;
+  none_offered = refl;
   rises = refl;
+  copied = ap (copies_due old.book) (sym next);
   collected = λ victim spare is. absurd (not_collected (Wipe block) (λ x. x) victim spare (sym next ∙ is));
   named = at ∙ ap (named_page old.book) (sym next);
   branch = (block, 0, state_here old.book block (Active 0) (closed_within old.book block wipe.1.closed), at ∙ plus_none (block * old.book.pages));
   rows = wipe_stored g d old.die die block e erased;
   few = omega arith;
+  drawn = omega arith;
+  erased = subst (λ (n : NextPage). Erased (erase_due old.book n) old.die die) (sym next) (whole_erased block old.die die erased e.only);
   tables = wipe_true g old.die die old.book old.table old.seq block e erased t wipe;
   calls = calls_of g old (record old { die = die; book = with_state old.book block (Active 0) }) (Wipe block) next (went_passed 1 0 ⊥ old.die die passed);
 }
@@ -110,9 +124,11 @@ wipe_failed g d block old die e how failed t wipe = record {
   leads = λ reuse_max. leads_none reuse_max old.book;
   once = record { takes = omega arith; wipes = omega arith; erases = omega arith; copies = omega arith; seals = omega arith };
   passed_so = refl;
+  none_offered = refl;
   none_sealed = refl;
   rows = λ sound. (torn_erase g d old.die die block e how sound).rows;
   few = omega arith;
+  erased = subst (λ (n : NextPage). ErasedOrFailed (erase_due old.book n) 0 old.die die) (sym next) (torn_erased block old.die die how e.only failed);
   failed = subst (λ (n : NextPage). ChangeFailed (calls_before old.book n) (0 + collection_reads g old.die.cells n) old.die die) (sym next) failed;
 }
   where

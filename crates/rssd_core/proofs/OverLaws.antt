@@ -156,6 +156,7 @@ module _ (meaning : Meaning) (sizes : Sizes) (old : Store) (new : DieState) (uni
       cells = flat_map (λ q. take g.main_bytes (p'.done q)) (range_with_len (unit_page g unit.block unit.number) g.span);
       above = pages_above g.main_bytes p'.done (page_at old.die.cells) (unit_page g unit.block unit.number) g.span (λ q. above_trans (p'.done q) (page_of new q) (page_of old.die q) (p'.below q) (p'.above q));
       carries = (λ i. meaning.decoding.second_carries (flat_map (λ q. take (sym bytes_are i) (p'.done q)) (range_with_len (unit_page g unit.block unit.number) g.span)) bytes) ∙ p'.content;
+      erases = p.erases;
       failed = failed;
     }
 
@@ -201,6 +202,7 @@ module _ (meaning : Meaning) (sizes : Sizes) (old : Store) (new : DieState) (uni
             (ap (λ (q : ℕ). Held (record { page = q; slot = unit.slot })) (sym o.page_is) ∙ sym is_entry)
             (subst (λ (v : BookValue). IsTrue g new.cells (passing v unit) (slice_set old.table sector (Some (Held (record { page = unit_page g unit.block unit.number; slot = unit.slot })))) (old.seq + 1)) (sym effect_is)
             (second_true g unit h old.die.cells new.cells old.book old.table old.seq writes));
+        erases = p.erases;
         calls = passed;
       }
 

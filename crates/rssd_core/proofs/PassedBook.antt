@@ -17,7 +17,9 @@ use Rattle.mount_scan.specs.Settled.{is_clean}
 use Rattle.collector.proofs.Books.{state_there}
 use Rattle.rssd_core.specs.Rules.{first_block, fewer, victim_of, fill_of, from_active, from_clean, from_victim, next_page}
 use Rattle.rssd_core.specs.BookChanges.{Change, Takes, Wipes, Erases, Copies, Seals, Fills, Rewrites, Passes, Offers}
-use Rattle.rssd_core.specs.Calls.{calls_before, erase_calls}
+use Rattle.rssd_core.specs.Calls.{calls_before, copies_due, erase_calls}
+use Rattle.collector.specs.Erases.{erased_in}
+use Rattle.rssd_core.specs.Erases.{erase_due}
 use Rattle.rssd_core.specs.Moves.{sealed_records}
 use Rattle.rssd_core.specs.Steps.{passing}
 use Rattle.rssd_core.proofs.Passing.{passed_cases, passed_not_active, passed_not_spare}
@@ -100,6 +102,20 @@ module _ (v : BookValue) (unit : ReuseUnit) (offer : IsOffer v unit) where
   calls_same (Take block) is = refl
   calls_same (Wipe block) is = refl
   calls_same (Collect victim spare) is = ap (λ (s : State). erase_calls s + 2 * live_at v victim + 1) (other_state is_spare spare refl (spare_of_next victim spare is))
+
+  -- the block to be erased is the same
+  pub due_same : (n : NextPage) → next_page v ≡ n → erase_due (passing v unit) n ≡ erase_due v n
+  due_same (Page page) is = refl
+  due_same (Take block) is = refl
+  due_same (Wipe block) is = refl
+  due_same (Collect victim spare) is = ap (λ (s : State). erased_in s spare) (other_state is_spare spare refl (spare_of_next victim spare is))
+
+-- how many are copied goes by the live counts alone
+pub copies_same : (v w : BookValue) → w.live ≡ v.live → (n : NextPage) → copies_due w n ≡ copies_due v n
+copies_same v w same (Page page) = refl
+copies_same v w same (Take block) = refl
+copies_same v w same (Wipe block) = refl
+copies_same v w same (Collect victim spare) = ap (λ (live : List ℕ). live_at (record v { live = live }) victim) same
 
 -- what is sealed goes by the live counts alone
 pub sealed_same : (v w : BookValue) → w.live ≡ v.live → (changes : List Change) → sealed_records w changes ≡ sealed_records v changes

@@ -53,7 +53,7 @@ module _ (d : Numbers) (sector : ℕ) (bytes : List ℕ) (old new : Store) (firs
         (record { numbers = d; view = view_at (record new { book = book }) (count_sum first 1) s (count_sum declined 0) (count_sum moved p.ends.rise); stopped = false })) (sym (none_first second few.few_second))
         (subst (λ (c : ℕ). Wrote d sector bytes First (record { numbers = d; view = view_at old first second declined moved; stopped = false })
         (record { numbers = d; view = view_at (record new { book = book }) (count_sum first 1) second c (count_sum moved p.ends.rise); stopped = false })) (sym (none_first declined few.few_declined))
-        (wrote_first d sector p.ends.page p.ends.rise 1 bytes old p.ends.mid new book first second declined moved fresh few.few_second few.few_declined (no_offer_is old.book p.none) holds p.ends.opened p.ends.put recycles)))
+        (wrote_first d sector p.ends.page p.ends.rise bytes old p.ends.mid new book first second declined moved fresh few.few_second few.few_declined (no_offer_is old.book p.none) holds p.ends.opened p.ends.put recycles)))
 
     second_written : Carried d.geometry d.meaning.decoding sector bytes old new moved moved' → Writes d sector bytes Second old new book first second declined moved moved'
     second_written p = subst (λ (m : ℕ). Writes d sector bytes Second old new book first second declined moved m) (sym p.tally)
@@ -61,7 +61,7 @@ module _ (d : Numbers) (sector : ℕ) (bytes : List ℕ) (old new : Store) (firs
         (record { numbers = d; view = view_at (record new { book = book }) s (count_sum second 1) (count_sum declined 0) moved; stopped = false })) (sym (none_first first few.few_first))
         (subst (λ (c : ℕ). Wrote d sector bytes Second (record { numbers = d; view = view_at old first second declined moved; stopped = false })
         (record { numbers = d; view = view_at (record new { book = book }) first (count_sum second 1) c moved; stopped = false })) (sym (none_first declined few.few_declined))
-        (wrote_second d sector 1 p.unit bytes old new book first second declined moved fresh few.few_first few.few_second few.few_declined few.few_moved p.offer holds p.put recycles)))
+        (wrote_second d sector p.unit bytes old new book first second declined moved fresh few.few_first few.few_second few.few_declined few.few_moved p.offer holds p.put recycles)))
 
     declined_written : Turned d.geometry d.meaning.decoding sector bytes (Ok tt) old new moved moved' → Writes d sector bytes Declined old new book first second declined moved moved'
     declined_written p = subst (λ (m : ℕ). Writes d sector bytes Declined old new book first second declined moved m) (sym p.ends.tally)
@@ -69,7 +69,7 @@ module _ (d : Numbers) (sector : ℕ) (bytes : List ℕ) (old new : Store) (firs
         (record { numbers = d; view = view_at (record new { book = book }) f (count_sum second 0) (count_sum declined 1) (count_sum moved p.ends.rise); stopped = false })) (sym (none_first first few.few_first))
         (subst (λ (s : ℕ). Wrote d sector bytes Declined (record { numbers = d; view = view_at old first second declined moved; stopped = false })
         (record { numbers = d; view = view_at (record new { book = book }) first s (count_sum declined 1) (count_sum moved p.ends.rise); stopped = false })) (sym (none_first second few.few_second))
-        (wrote_declined d sector p.ends.page p.ends.rise 1 bytes old p.ends.mid new book first second declined moved fresh few.few_first few.few_second
+        (wrote_declined d sector p.ends.page p.ends.rise bytes old p.ends.mid new book first second declined moved fresh few.few_first few.few_second
         (offer_declines d p.unit bytes old p.start first second declined moved p.offer p.declined) holds
         (declined_opened d p.unit bytes old p.start p.offer p.declined p.ends.page p.ends.rise p.ends.mid p.ends.opened) p.ends.put recycles)))
 
@@ -106,7 +106,7 @@ module _ (d : Numbers) (sector : ℕ) (bytes : List ℕ) (old new : Store) (firs
         (offer_reads_are d p.unit old p.offer) holds (declined_opened d p.unit bytes old p.start p.offer p.declined failed.page failed.rise failed.mid failed.opened) failed.put)
   ]
   unchanged (inr (inr p)) = subst (λ (m : ℕ). Faults d sector bytes old new new.book true first second declined moved m) (sym p.tally)
-      (over_change_failed d sector 1 p.unit bytes old new first second declined moved fresh few.few_moved p.offer holds p.put)
+      (over_change_failed d sector p.unit bytes old new first second declined moved fresh few.few_moved p.offer holds p.put)
 
 -- ---- from the calls that were made
 

@@ -25,6 +25,8 @@ use Rattle.collector.proofs.Rows.{row_of, rows_long}
 use Rattle.rssd_core.specs.Rules.{next_page}
 use Rattle.rssd_core.specs.BookChanges.{Offers, Leads, is_pass}
 use Rattle.rssd_core.specs.Calls.{calls_before, clean_calls, collection_calls, collection_reads}
+use Rattle.rssd_core.specs.Erases.{erase_due}
+use Rattle.rssd_core.proofs.ErasesLaws.{erased_then}
 use Rattle.rssd_core.specs.Clearing.{is_held, zeros_header, ClearEnds, Cleared}
 use Rattle.rssd_core.specs.DeviceValue.{Numbers, DeviceView}
 use Rattle.rssd_core.specs.Failures.{cut_of}
@@ -92,11 +94,12 @@ module _ (d : Numbers) (sector : ℕ) (old : Store) (first second declined moved
     fresh = fresh;
     rows = set_same (stored d.geometry d.meaning.decoding old.die.cells) sector (zero_sector d.geometry) (omega (arith, within, rows_long d.geometry d.meaning.decoding old.die.cells))
         (row_of d.geometry d.meaning.decoding old.die.cells sector within ∙ said_zeros d.geometry d.meaning.decoding old.die.cells (live_record d.geometry old.die.cells sector) none);
+    leaves = rw none refl;
     calls = rw none (went_passed 0 0 (IsCollect (next_page old.book)) old.die old.die (passed_none old.die));
     book = record {
       changes = [];
       leads = leads_none d.reuse_max old.book;
-      may = (refl, record { takes = omega arith; wipes = omega arith; erases = omega arith; copies = omega arith; seals = omega arith });
+      may = (refl, record { takes = omega arith; wipes = omega arith; erases = omega arith; copies = omega arith; seals = omega arith }, inr refl);
       rise = 0;
       rises = refl;
       tally = omega arith;
@@ -123,11 +126,12 @@ module _ (d : Numbers) (sector : ℕ) (old : Store) (first second declined moved
         record {
           fresh = fresh;
           rows = w.rows;
+          leaves = rw held (w.page, w.gets);
           calls = rw held (subst (λ (n : ℕ). Went (clean_calls old.book) n (IsCollect (next_page old.book)) old.die new.die) (none_plus (collection_reads d.geometry old.die.cells (next_page old.book))) w.calls);
           book = record {
             changes = w.book.changes;
             leads = w.book.leads;
-            may = w.book.may;
+            may = (w.book.may.0, w.book.may.1, inl w.book.may.2);
             rise = w.book.rise;
             rises = w.book.rises;
             tally = w.book.tally;
@@ -154,10 +158,11 @@ module _ (d : Numbers) (sector : ℕ) (old : Store) (first second declined moved
         rows = λ sound. elim f.rows [ inl same ↦ inl (same ∙ o.rows) | inr done ↦ inr (done ∙ ap (λ (rows : List (List ℕ)). slice_set rows sector (zero_sector d.geometry)) o.rows) ];
         stopped = refl;
       });
+      erased = inl (erased_then (erase_due old.book (next_page old.book)) old.die mid.die new.die o.erased f.erases);
       book = record {
         changes = o.changes;
         leads = subst (λ (v : BookValue). Leads d.reuse_max old.book o.changes v) (sym (ap (λ (s : Store). s.book) f.same)) (o.leads d.reuse_max);
-        may = (o.passed_so, o.once);
+        may = (o.passed_so, o.once, o.none_offered);
         rise = rise;
         rises = o.rises;
         tally = refl;
@@ -184,10 +189,11 @@ module _ (d : Numbers) (sector : ℕ) (old : Store) (first second declined moved
         rows = λ sound. inl (f.rows sound);
         stopped = refl;
       });
+      erased = f.erased;
       book = record {
         changes = f.changes;
         leads = f.leads d.reuse_max;
-        may = (f.passed_so, f.once);
+        may = (f.passed_so, f.once, f.none_offered);
         rise = 0;
         rises = sym f.none_sealed;
         tally = omega arith;
@@ -216,10 +222,11 @@ module _ (d : Numbers) (sector : ℕ) (old : Store) (first second declined moved
         rows = f.rows;
         running = refl;
       });
+      erased = inl f.erased;
       book = record {
         changes = f.changes ++ (Offers ∷ []);
         leads = leads_append d.reuse_max old.book new.book book f.changes (Offers ∷ []) (f.leads d.reuse_max) (leads_one d.reuse_max new.book book Offers recycles);
-        may = (omega (arith, count_by-append is_pass f.changes (Offers ∷ []), f.passed_so), once_append f.changes (Offers ∷ []) f.once (refl, refl, refl, refl, refl));
+        may = (omega (arith, count_by-append is_pass f.changes (Offers ∷ []), f.passed_so), once_append f.changes (Offers ∷ []) f.once (refl, refl, refl, refl, refl), record { before = f.changes; last = refl; none_before = f.none_offered });
         rise = 0;
         rises = sym (sealed_offers old.book f.changes ∙ f.none_sealed);
         tally = omega arith;

@@ -1,5 +1,5 @@
 -- A write to a clean page, from its steps to the contract: a page was got, the record put, and blocks recycled.
-use Rattle.std.proofs.Common.{◌≡◌, ◌⊎◌, inl, inr, ℕ, ◌+◌, ◌*◌, ◌^◌, ◌<◌, false, List, [], ◌∷◌, ◌++◌, Option, Some, None, refl, sym, ap, ◌∙◌, subst, arith}
+use Rattle.std.proofs.Common.{◌≡◌, ◌⊎◌, inl, inr, ℕ, ◌+◌, ◌*◌, ◌^◌, ◌<◌, false, List, [], ◌∷◌, ◌++◌, Option, Some, None, refl, sym, ap, ◌∙◌, subst, arith, append_assoc, ◌-◌}
 use Rattle.std.specs.Prelude.{slice_set}
 use Rattle.std.specs.List.{count_by}
 use Rattle.std.proofs.lemmas.Bool.{cases_lt}
@@ -19,14 +19,16 @@ use Rattle.collector.specs.Store.{Store, store, IsTrueStore}
 use Rattle.collector.specs.Store as stores
 use Rattle.rssd_core.specs.declared.device.Placed.TheVariants.{First, Declined}
 use Rattle.rssd_core.specs.Rules.{first_block, next_page, offer_of}
-use Rattle.rssd_core.specs.BookChanges.{Change, Fills, Offers, Leads, EachOnce, passes, filled_in, is_take, is_wipe, is_erase, is_copy, is_seal, is_pass}
+use Rattle.rssd_core.specs.BookChanges.{Change, Fills, Offers, Leads, EachOnce, OffersLast, passes, is_offer, filled_in, is_take, is_wipe, is_erase, is_copy, is_seal, is_pass}
 use Rattle.rssd_core.specs.Calls.{calls_before, clean_calls, collection_reads}
 use Rattle.rssd_core.specs.DeviceValue.{Numbers, DeviceView, rows_of}
 use Rattle.rssd_core.specs.Moves.{MovesBook, MovesSeq, WhereCut, sealed_records, ChangesRose}
 use Rattle.rssd_core.specs.Outcomes.{Wrote, WriteAtCut, RisesSealed}
 use Rattle.rssd_core.specs.Steps.{Opened, OpenedAfter, PutNext, former_block}
 use Rattle.rssd_core.specs.Within.{Went, IsCollect}
-use Rattle.rssd_core.specs.Writes.{OnCleanPage, OfferDeclines}
+use Rattle.rssd_core.specs.Writes.{OnCleanPage, GetsPage, OfferDeclines}
+use Rattle.rssd_core.specs.Erases.{erase_due}
+use Rattle.rssd_core.proofs.ErasesLaws.{erased_then}
 use Rattle.rssd_core.proofs.Chained.{leads_append, leads_one, went_trans, no_cut_came, count_by-append}
 use Rattle.rssd_core.proofs.Rules.{next_is, active_is}
 
@@ -101,27 +103,37 @@ sealed_offers v changes = sum_by-append _ changes (Offers ∷ []) ∙ plus_none 
 -- ---- the write
 
 -- what a write to a clean page gives, whether a unit was declined before or not
-pub record WroteClean (d : Numbers) (sector : ℕ) (bytes : List ℕ) (passed before : ℕ) (old new : DeviceView) : Type 0 where
+pub record WroteClean (d : Numbers) (sector kind : ℕ) (bytes : List ℕ) (passed before : ℕ) (old new : DeviceView) : Type 0 where
   pub rows : rows_of d new ≡ slice_set (rows_of d old) sector bytes
-  pub page : OnCleanPage d old new sector
+  pub page : OnCleanPage d old new sector kind
+  pub gets : GetsPage old new
   pub calls : Went (clean_calls old.book) (before + collection_reads d.geometry old.die.cells (next_page old.book)) (IsCollect (next_page old.book)) old.die new.die
-  pub book : MovesBook d (λ changes. (passes changes ≡ passed) × EachOnce changes) (RisesSealed old.book) (WhereCut (WriteAtCut d old bytes) old new) old new
+  pub book : MovesBook d (λ changes. (passes changes ≡ passed) × EachOnce changes × OffersLast changes) (RisesSealed old.book) (WhereCut (WriteAtCut d old bytes) old new) old new
   pub seq : MovesSeq d old new
 
 pub wrote_clean : (d : Numbers) (sector page rise kind passed before : ℕ) (bytes : List ℕ) (old mid new : Store) (book : BookValue) (first second declined moved first' second' declined' : ℕ)
     → stores.Holds d.geometry old new
     → OpenedAfter d.geometry d.meaning.decoding passed before page rise old mid → PutNext d.geometry d.meaning.decoding page (record { sector = sector; seq = mid.seq; kind = kind }) bytes mid new → Recycles d.reuse_max new.book book
-    → WroteClean d sector bytes passed before (view_at old first second declined moved) (view_at (record new { book = book }) first' second' declined' (count_sum moved rise))
+    → WroteClean d sector kind bytes passed before (view_at old first second declined moved) (view_at (record new { book = book }) first' second' declined' (count_sum moved rise))
 wrote_clean d sector page rise kind passed before bytes old mid new book first second declined moved first' second' declined' holds o p recycles = record {
   rows = p.rows ∙ ap (λ (rows : List (List ℕ)). slice_set rows sector bytes) o.rows;
-  page = (record { sector = sector; seq = mid.seq; kind = kind }, p.live ∙ ap (λ (q : ℕ). Some (record { place = first_slot q; header = record { sector = sector; seq = mid.seq; kind = kind } })) o.named);
+  page = p.live ∙ (λ i. Some (record { place = first_slot (o.named i); header = record { sector = sector; seq = last_drawn i; kind = kind } }));
+  gets = record { drawn = omega (arith, p.seq, o.drawn, o.copied); erased = erased_then (erase_due old.book (next_page old.book)) old.die mid.die new.die o.erased p.erases };
   calls = subst (λ (n : ℕ). Went (clean_calls old.book) n (IsCollect (next_page old.book)) old.die new.die) (plus_none (before + collection_reads d.geometry old.die.cells (next_page old.book))) went;
   book = record {
     changes = o.changes ++ ending (former_block mid.book mid.table sector);
     leads = leads_append d.reuse_max old.book mid.book book o.changes (ending (former_block mid.book mid.table sector)) (o.leads d.reuse_max)
         (leads_append d.reuse_max mid.book new.book book (Fills (former_block mid.book mid.table sector) ∷ []) (Offers ∷ []) (fills_one d.reuse_max d.geometry d page (record { sector = sector; seq = mid.seq; kind = kind }) bytes mid new o.tables p)
         (leads_one d.reuse_max new.book book Offers recycles));
-    may = (omega (arith, count_by-append is_pass o.changes (ending (former_block mid.book mid.table sector)), o.passed_so), once_append o.changes (ending (former_block mid.book mid.table sector)) o.once (refl, refl, refl, refl, refl));
+    may = (
+      omega (arith, count_by-append is_pass o.changes (ending (former_block mid.book mid.table sector)), o.passed_so),
+      once_append o.changes (ending (former_block mid.book mid.table sector)) o.once (refl, refl, refl, refl, refl),
+      record {
+        before = o.changes ++ (Fills (former_block mid.book mid.table sector) ∷ []);
+        last = sym (append_assoc o.changes (Fills (former_block mid.book mid.table sector) ∷ []) (Offers ∷ []));
+        none_before = omega (arith, count_by-append is_offer o.changes (Fills (former_block mid.book mid.table sector) ∷ []), o.none_offered);
+      },
+    );
     rise = rise;
     rises = o.rises ∙ sym (sealed_ending old.book o.changes (former_block mid.book mid.table sector));
     tally = refl;
@@ -133,22 +145,26 @@ wrote_clean d sector page rise kind passed before bytes old mid new book first s
     plus_none : (n : ℕ) → n + 0 ≡ n
     plus_none n = omega arith
 
+    last_drawn : mid.seq ≡ new.seq - 1
+    last_drawn = omega (arith, p.seq)
+
     went : Went (calls_before old.book (next_page old.book) + 2) (before + collection_reads d.geometry old.die.cells (next_page old.book) + 0) (IsCollect (next_page old.book)) old.die new.die
     went = went_trans (calls_before old.book (next_page old.book)) (before + collection_reads d.geometry old.die.cells (next_page old.book)) 2 0 (IsCollect (next_page old.book)) old.die mid.die new.die o.calls p.calls
 
 -- no unit was offered
-pub wrote_first : (d : Numbers) (sector page rise kind : ℕ) (bytes : List ℕ) (old mid new : Store) (book : BookValue) (first second declined moved : ℕ)
+pub wrote_first : (d : Numbers) (sector page rise : ℕ) (bytes : List ℕ) (old mid new : Store) (book : BookValue) (first second declined moved : ℕ)
     → old.seq < 2 ^ 62 → second < 2 ^ 64 → declined < 2 ^ 64 → offer_of old.book ≡ None → stores.Holds d.geometry old new
-    → Opened d.geometry d.meaning.decoding page rise old mid → PutNext d.geometry d.meaning.decoding page (record { sector = sector; seq = mid.seq; kind = kind }) bytes mid new → Recycles d.reuse_max new.book book
+    → Opened d.geometry d.meaning.decoding page rise old mid → PutNext d.geometry d.meaning.decoding page (record { sector = sector; seq = mid.seq; kind = 1 }) bytes mid new → Recycles d.reuse_max new.book book
     → Wrote d sector bytes First
     (record { numbers = d; view = view_at old first second declined moved; stopped = false })
     (record { numbers = d; view = view_at (record new { book = book }) (count_sum first 1) second declined (count_sum moved rise); stopped = false })
-wrote_first d sector page rise kind bytes old mid new book first second declined moved fresh few_second few_declined none holds o p recycles =
-    let w = wrote_clean d sector page rise kind 0 0 bytes old mid new book first second declined moved (count_sum first 1) second declined holds o p recycles in
+wrote_first d sector page rise bytes old mid new book first second declined moved fresh few_second few_declined none holds o p recycles =
+    let w = wrote_clean d sector page rise 1 0 0 bytes old mid new book first second declined moved (count_sum first 1) second declined holds o p recycles in
     record {
       fresh = fresh;
       rows = w.rows;
       place = (none, w.page);
+      draws = w.gets;
       calls = subst (λ (n : ℕ). Went (clean_calls old.book) n (IsCollect (next_page old.book)) old.die new.die) (none_plus (collection_reads d.geometry old.die.cells (next_page old.book))) w.calls;
       book = w.book;
       seq = w.seq;
@@ -160,18 +176,19 @@ wrote_first d sector page rise kind bytes old mid new book first second declined
     none_plus n = omega arith
 
 -- a unit was offered, and no cells above it carry the sector
-pub wrote_declined : (d : Numbers) (sector page rise kind : ℕ) (bytes : List ℕ) (old mid new : Store) (book : BookValue) (first second declined moved : ℕ)
+pub wrote_declined : (d : Numbers) (sector page rise : ℕ) (bytes : List ℕ) (old mid new : Store) (book : BookValue) (first second declined moved : ℕ)
     → old.seq < 2 ^ 62 → first < 2 ^ 64 → second < 2 ^ 64 → OfferDeclines d (view_at old first second declined moved) bytes → stores.Holds d.geometry old new
-    → OpenedAfter d.geometry d.meaning.decoding 1 d.geometry.span page rise old mid → PutNext d.geometry d.meaning.decoding page (record { sector = sector; seq = mid.seq; kind = kind }) bytes mid new → Recycles d.reuse_max new.book book
+    → OpenedAfter d.geometry d.meaning.decoding 1 d.geometry.span page rise old mid → PutNext d.geometry d.meaning.decoding page (record { sector = sector; seq = mid.seq; kind = 1 }) bytes mid new → Recycles d.reuse_max new.book book
     → Wrote d sector bytes Declined
     (record { numbers = d; view = view_at old first second declined moved; stopped = false })
     (record { numbers = d; view = view_at (record new { book = book }) first second (count_sum declined 1) (count_sum moved rise); stopped = false })
-wrote_declined d sector page rise kind bytes old mid new book first second declined moved fresh few_first few_second declines holds o p recycles =
-    let w = wrote_clean d sector page rise kind 1 d.geometry.span bytes old mid new book first second declined moved first second (count_sum declined 1) holds o p recycles in
+wrote_declined d sector page rise bytes old mid new book first second declined moved fresh few_first few_second declines holds o p recycles =
+    let w = wrote_clean d sector page rise 1 1 d.geometry.span bytes old mid new book first second declined moved first second (count_sum declined 1) holds o p recycles in
     record {
       fresh = fresh;
       rows = w.rows;
       place = (declines, w.page);
+      draws = w.gets;
       calls = w.calls;
       book = w.book;
       seq = w.seq;

@@ -1,5 +1,5 @@
 -- How a device's book changes: uses of its rules, in order.
-use Rattle.std.specs.Prelude.{◌≡◌, ℕ, ◌+◌, ◌-◌, ◌≤◌, Bool, true, false, List, [], ◌∷◌, ◌==◌, if◌then◌else◌, Option, Some, None}
+use Rattle.std.specs.Prelude.{◌≡◌, ℕ, ◌+◌, ◌-◌, ◌≤◌, Bool, true, false, List, [], ◌∷◌, ◌++◌, ◌==◌, if◌then◌else◌, Option, Some, None}
 use Rattle.std.specs.List.{count_by}
 use Rattle.block_state.specs.declared.state.State.TheVariants.{Active, Used, Spare}
 use Rattle.block_state.specs.State.{is_active}
@@ -99,6 +99,10 @@ abbrev pub is_copy : Change → Bool
 is_copy (Copies spare) = true
 is_copy _ = false
 
+abbrev pub is_offer : Change → Bool
+is_offer Offers = true
+is_offer _ = false
+
 -- the changes of an idle call
 abbrev pub is_idle : Change → Bool
 is_idle (Fills former) = true
@@ -107,6 +111,17 @@ is_idle _ = false
 
 abbrev pub passes : List Change → ℕ
 passes changes = count_by is_pass changes
+
+-- blocks that are due offer their units once, as the last of the changes
+pub record OffersLast (changes : List Change) : Type 0 where
+  pub before : List Change
+  pub last : changes ≡ before ++ Offers ∷ []
+  pub none_before : count_by is_offer before ≡ 0
+
+-- so a call ends that does not leave the device stopped, and none of a call that does
+abbrev pub OffersAtEnd : Bool → List Change → Type 0
+OffersAtEnd false changes = OffersLast changes
+OffersAtEnd true changes = count_by is_offer changes ≡ 0
 
 -- a write or trim uses each rule of clean pages and of collection at most once
 pub record EachOnce (changes : List Change) : Type 0 where

@@ -1,5 +1,5 @@
 -- How many change calls and reads the rules make.
-use Rattle.std.specs.Prelude.{ℕ, ◌+◌, ◌*◌, true, List, ◌==◌, if◌then◌else◌, max, sum_by, Option, Some, None}
+use Rattle.std.specs.Prelude.{ℕ, ◌+◌, ◌-◌, ◌*◌, true, List, ◌==◌, if◌then◌else◌, max, sum_by, Option, Some, None}
 use Rattle.std.specs.List.{range_with_len}
 use Rattle.block_state.specs.declared.state.State.{State}
 use Rattle.block_state.specs.declared.state.State.TheVariants.{Spare}
@@ -57,6 +57,15 @@ abbrev pub offer_reads : Geometry → Option ReuseUnit → ℕ
 offer_reads g None = 0
 offer_reads g (Some unit) = g.span
 
--- an idle move reads at most the pages of its block, and then its record
+-- the records that are copied before a page is at hand, each with a number of its own
+abbrev pub copies_due : BookValue → NextPage → ℕ
+copies_due v (Collect victim spare) = live_at v victim
+copies_due v _ = 0
+
+-- the reads of an idle move: its victim's pages up to that of the first live record, and those of getting that record
+abbrev pub reads_of_move : Geometry → ℕ → Placed → ℕ
+reads_of_move g victim first = (first.place.page + 1 - victim * g.pages) + get_reads g (Some first)
+
+-- at most all pages of its block, and then its record
 abbrev pub move_reads : Geometry → ℕ
 move_reads g = g.pages + max 1 g.span

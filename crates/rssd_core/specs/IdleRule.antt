@@ -16,7 +16,7 @@ use Rattle.collector.specs.Again.{again}
 use Rattle.collector.specs.Moves.{IsFirstLive}
 use Rattle.rssd_core.specs.Rules.{room_left}
 use Rattle.rssd_core.specs.BookChanges.{recorded, filled}
-use Rattle.rssd_core.specs.Calls.{move_reads}
+use Rattle.rssd_core.specs.Calls.{move_reads, reads_of_move}
 use Rattle.rssd_core.specs.DeviceValue.{Numbers, DeviceView, LiveAt}
 use Rattle.rssd_core.specs.Within.{Finished}
 
@@ -52,7 +52,7 @@ pub record MoveByRule (d : Numbers) (sector : ℕ) (old new : Moment) : Type 0 w
   pub book : new.book ≡ filled (recorded old.book block (Some victim)) block
   pub seq : new.seq ≡ old.seq + 1
   pub true_book : IsTrue d.geometry new.die.cells new.book (live_map d.geometry new.die.cells) new.seq
-  pub calls : PassedWithin 2 (move_reads d.geometry) old.die new.die
+  pub calls : PassedWithin 2 (reads_of_move d.geometry victim first) old.die new.die
 
 -- moves of these sectors' records, one after another, lead from one moment to another
 unfoldable pub MovesByRule : Numbers → List ℕ → Moment → Moment → Type 0
@@ -82,19 +82,27 @@ pub record IdleMoves (d : Numbers) (old new : DeviceView) (k : ℕ) : Type 0 whe
 
 -- ---- an idle call in which a call of the die failed
 
--- A read of a move failed: no cell and no number differs, and the recycling rule follows.
+-- A read of a move failed, of the pages of the idle victim or of getting its first live record, and at the latest there: no cell
+-- and no number differs, and the recycling rule follows.
 pub record MoveUnread (d : Numbers) (old : Moment) (new : DeviceView) : Type 0 where
   pub cells : SameCells old.die new.die
   pub seq : new.seq ≡ old.seq
   pub recycled : Recycles d.reuse_max old.book new.book
+  pub victim : ℕ
+  pub is_victim : IsIdleVictim old.book (room_left old.book) victim
   pub failed : ReadFailed 0 (move_reads d.geometry) old.die new.die
+  pub by_then : (first : Placed) → IsFirstLive d.geometry old.die.cells victim first → ReadFailed 0 (reads_of_move d.geometry victim first) old.die new.die
 
--- A change call of a move failed: it had drawn its number, the book is as before it, and so is every sector.
+-- A change call of the move of that record failed: it had drawn its number, the book is as before it, and so is every sector.
 pub record MoveBroken (d : Numbers) (old : Moment) (new : DeviceView) : Type 0 where
   pub rows : stored d.geometry d.meaning.decoding new.die.cells ≡ stored d.geometry d.meaning.decoding old.die.cells
   pub seq : new.seq ≡ old.seq + 1
   pub book : new.book ≡ old.book
-  pub failed : ChangeFailed 2 (move_reads d.geometry) old.die new.die
+  pub victim : ℕ
+  pub is_victim : IsIdleVictim old.book (room_left old.book) victim
+  pub first : Placed
+  pub is_first : IsFirstLive d.geometry old.die.cells victim first
+  pub failed : ChangeFailed 2 (reads_of_move d.geometry victim first) old.die new.die
 
 -- The records of these sectors, fewer than n, were moved by the idle-move rule. There was one more to move, and that move was not
 -- finished.

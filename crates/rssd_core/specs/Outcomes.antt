@@ -1,5 +1,5 @@
 -- What a call of a device leaves, one record for each outcome.
-use Rattle.std.specs.Prelude.{◌≡◌, ◌⊎◌, ℕ, ◌+◌, ◌*◌, ◌^◌, ◌<◌, ◌≤◌, true, false, List, All, slice_set, replicate}
+use Rattle.std.specs.Prelude.{◌≡◌, ◌⊎◌, ℕ, ◌+◌, ◌*◌, ◌^◌, ◌<◌, ◌≤◌, Bool, true, false, List, length, All, slice_set, replicate}
 use Rattle.cell_die.specs.Counts.{count_sum}
 use Rattle.cell_die.specs.Changes.{SameCells}
 use Rattle.cell_die.specs.Calls.{Kept, ChangeFailed, ReadFailed, PassedWithin}
@@ -11,13 +11,14 @@ use Rattle.page_codec.specs.TrueBook.{IsTrueBook, live_map}
 use Rattle.rssd_core.specs.declared.device.Placed.{Placed}
 use Rattle.rssd_core.specs.declared.device.Placed.TheVariants.{First, Second, Declined}
 use Rattle.rssd_core.specs.Rules.{next_page}
-use Rattle.rssd_core.specs.BookChanges.{Change, EachOnce, passes, is_idle}
+use Rattle.rssd_core.specs.BookChanges.{Change, EachOnce, OffersLast, OffersAtEnd, passes, is_idle}
+use Rattle.rssd_core.specs.Erases.{erase_due, ErasedOrFailed}
 use Rattle.rssd_core.specs.Calls.{move_reads}
 use Rattle.rssd_core.specs.DeviceValue.{Numbers, DeviceView, DeviceValue, rows_of}
 use Rattle.rssd_core.specs.Moves.{MovesBook, MovesSeq, WhereCut, CollectAtCut, sealed_records}
-use Rattle.rssd_core.specs.Writes.{OfferCarries, WentTo}
+use Rattle.rssd_core.specs.Writes.{OfferCarries, WentTo, WriteDraws, WriteErased, TrimLeaves}
 use Rattle.rssd_core.specs.IdleRule.{IdleMoves, IdleUnfinished, NoMoveLeft, moment_of}
-use Rattle.rssd_core.specs.Within.{Went, WithinWrite, WithinTrim, WithinIdle, Finished, IsCollect, write_calls, write_reads, WriteBounded, trim_calls, trim_reads}
+use Rattle.rssd_core.specs.Within.{Went, WithinWrite, WithinTrim, WithinIdle, Finished, IsCollect, holds_bytes, record_of, write_calls, write_reads, WriteBounded, trim_calls, trim_reads}
 
 -- while no change call failed the book is true to the cells
 abbrev pub TrueWhileRunning : Numbers → DeviceValue → Type 0
@@ -84,9 +85,9 @@ Faulted d Within done old new = ReadFault d Within old new ⊎ ChangeFault d Wit
 
 -- which uses of rules a write may make
 abbrev pub WriteMay : Placed → List Change → Type 0
-WriteMay First changes = (passes changes ≡ 0) × EachOnce changes
-WriteMay Second changes = (passes changes ≡ 1) × EachOnce changes
-WriteMay Declined changes = (passes changes ≡ 1) × EachOnce changes
+WriteMay First changes = (passes changes ≡ 0) × EachOnce changes × OffersLast changes
+WriteMay Second changes = (passes changes ≡ 1) × EachOnce changes × OffersLast changes
+WriteMay Declined changes = (passes changes ≡ 1) × EachOnce changes × OffersLast changes
 
 -- the tally of moved records rises by those of the seals
 abbrev pub RisesSealed : BookValue → List Change → ℕ → Type 0
@@ -100,26 +101,32 @@ pub record Wrote (d : Numbers) (sector : ℕ) (bytes : List ℕ) (placed : Place
   pub fresh : old.view.seq < 2 ^ 62
   pub rows : rows_of d new.view ≡ slice_set (rows_of d old.view) sector bytes
   pub place : WentTo d old.view new.view sector bytes placed
+  pub draws : WriteDraws old.view new.view placed
   pub calls : Went (write_calls d old.view placed) (write_reads d old.view placed) (WriteBounded old.view placed) old.view.die new.view.die
   pub book : MovesBook d (WriteMay placed) (RisesSealed old.view.book) (WhereCut (WriteAtCut d old.view bytes) old.view new.view) old.view new.view
   pub seq : MovesSeq d old.view new.view
   pub counts : CountsOne placed old.view new.view
   pub running : new.stopped ≡ false
 
-abbrev pub WriteFaultMay : List Change → Type 0
-WriteFaultMay changes = (passes changes ≤ 1) × EachOnce changes
+abbrev pub WriteFaultMay : Bool → List Change → Type 0
+WriteFaultMay stopped changes = (passes changes ≤ 1) × EachOnce changes × OffersAtEnd stopped changes
 
 pub record WriteFault (d : Numbers) (sector : ℕ) (bytes : List ℕ) (old new : DeviceValue) : Type 0 where
   pub fresh : old.view.seq < 2 ^ 62
   pub fault : Faulted d (WithinWrite d old.view bytes) (slice_set (rows_of d old.view) sector bytes) old new
-  pub book : MovesBook d WriteFaultMay (RisesSealed old.view.book) (WhereCut (WriteAtCut d old.view bytes) old.view new.view) old.view new.view
+  pub erased : WriteErased d old.view bytes new.view
+  pub book : MovesBook d (WriteFaultMay new.stopped) (RisesSealed old.view.book) (WhereCut (WriteAtCut d old.view bytes) old.view new.view) old.view new.view
   pub seq : MovesSeq d old.view new.view
   pub counts : SameCounts old.view new.view
 
 -- ---- trim
 
+-- a trim that puts no record makes no change
 abbrev pub TrimMay : List Change → Type 0
-TrimMay changes = (passes changes ≡ 0) × EachOnce changes
+TrimMay changes = (passes changes ≡ 0) × EachOnce changes × (OffersLast changes ⊎ (length changes ≡ 0))
+
+abbrev pub TrimFaultMay : Bool → List Change → Type 0
+TrimFaultMay stopped changes = (passes changes ≡ 0) × EachOnce changes × OffersAtEnd stopped changes
 
 abbrev pub zeros : Numbers → List ℕ
 zeros d = replicate d.geometry.sector_bytes 0
@@ -127,6 +134,7 @@ zeros d = replicate d.geometry.sector_bytes 0
 pub record Trimmed (d : Numbers) (sector : ℕ) (old new : DeviceValue) : Type 0 where
   pub fresh : old.view.seq < 2 ^ 62
   pub rows : rows_of d new.view ≡ slice_set (rows_of d old.view) sector (zeros d)
+  pub leaves : TrimLeaves d old.view new.view sector (holds_bytes (record_of d old.view sector))
   pub calls : Went (trim_calls d old.view sector) (trim_reads d old.view sector) (IsCollect (next_page old.view.book)) old.view.die new.view.die
   pub book : MovesBook d TrimMay (RisesSealed old.view.book) (WhereCut (CollectAtCut old.view.book) old.view new.view) old.view new.view
   pub seq : MovesSeq d old.view new.view
@@ -136,7 +144,8 @@ pub record Trimmed (d : Numbers) (sector : ℕ) (old new : DeviceValue) : Type 0
 pub record TrimFault (d : Numbers) (sector : ℕ) (old new : DeviceValue) : Type 0 where
   pub fresh : old.view.seq < 2 ^ 62
   pub fault : Faulted d (WithinTrim d old.view sector) (slice_set (rows_of d old.view) sector (zeros d)) old new
-  pub book : MovesBook d TrimMay (RisesSealed old.view.book) (WhereCut (CollectAtCut old.view.book) old.view new.view) old.view new.view
+  pub erased : ErasedOrFailed (erase_due old.view.book (next_page old.view.book)) 0 old.view.die new.view.die
+  pub book : MovesBook d (TrimFaultMay new.stopped) (RisesSealed old.view.book) (WhereCut (CollectAtCut old.view.book) old.view new.view) old.view new.view
   pub seq : MovesSeq d old.view new.view
   pub counts : SameCounts old.view new.view
 
@@ -160,6 +169,7 @@ pub record Idled (d : Numbers) (n k : ℕ) (old new : DeviceValue) : Type 0 wher
   pub at_most : k ≤ n
   pub all : k < n → NoMoveLeft (moment_of new.view)
   pub moves : IdleMoves d old.view new.view k
+  pub erases : new.view.die.erases ≡ old.view.die.erases
   pub calls : PassedWithin (2 * k) (k * move_reads d.geometry) old.view.die new.view.die
   pub book : MovesBook d IdleMay (RisesTo k) (WhereCut IdleAtCut old.view new.view) old.view new.view
   pub seq : MovesSeq d old.view new.view
@@ -169,6 +179,7 @@ pub record Idled (d : Numbers) (n k : ℕ) (old new : DeviceValue) : Type 0 wher
 pub record IdleFault (d : Numbers) (n : ℕ) (old new : DeviceValue) : Type 0 where
   pub fault : Faulted d (WithinIdle d n old.view new.view) (rows_of d old.view) old new
   pub moves : IdleUnfinished d n old.view new.view
+  pub erases : new.view.die.erases ≡ old.view.die.erases
   pub book : MovesBook d IdleMay (RisesFinished old.view new.view) (WhereCut IdleAtCut old.view new.view) old.view new.view
   pub seq : MovesSeq d old.view new.view
   pub counts : SameCounts old.view new.view

@@ -19,8 +19,10 @@ use Rattle.block_state.specs.Book.{BookValue, state_at, live_at, with_state}
 use Rattle.page_alloc.specs.declared.next_page.NextPage.TheVariants.{Collect}
 use Rattle.page_alloc.specs.CleanPage.{IsPageBranch}
 use Rattle.rssd_core.specs.Rules.{next_page}
-use Rattle.rssd_core.specs.BookChanges.{Change, Leads, EachOnce, passes}
-use Rattle.rssd_core.specs.Calls.{calls_before, collection_reads, named_page}
+use Rattle.rssd_core.specs.BookChanges.{Change, Leads, EachOnce, passes, is_offer}
+use Rattle.std.specs.List.{count_by}
+use Rattle.rssd_core.specs.Calls.{calls_before, collection_reads, copies_due, named_page}
+use Rattle.rssd_core.specs.Erases.{erase_due, Erased, ErasedOrFailed}
 use Rattle.rssd_core.specs.Moves.{sealed_records}
 use Rattle.rssd_core.specs.Within.{Went, IsCollect}
 use Rattle.page_codec.specs.Geometry.{Geometry, units, unit_page, unit_at}
@@ -61,6 +63,7 @@ pub record PutNext (g : Geometry) (d : Decoding) (page : ℕ) (h : Header) (row 
   pub book : new.book ≡ filled (recorded old.book block (former_block old.book old.table h.sector)) block
   pub seq : new.seq ≡ old.seq + 1
   pub tables : IsTrueStore g new
+  pub erases : new.die.erases ≡ old.die.erases
   pub calls : Passed 2 0 old.die new.die
 
 -- A page is at hand that was named before: the Active block's next one, or that of a block that was taken, wiped or collected
@@ -70,12 +73,16 @@ pub record OpenedAfter (g : Geometry) (d : Decoding) (passed before page rise : 
   pub leads : (reuse_max : ℕ) → Leads reuse_max old.book changes new.book
   pub once : EachOnce changes
   pub passed_so : passes changes ≡ passed
+  pub none_offered : count_by is_offer changes ≡ 0
   pub rises : rise ≡ sealed_records old.book changes
+  pub copied : rise ≡ copies_due old.book (next_page old.book)
   pub collected : (victim spare : ℕ) → next_page old.book ≡ Collect victim spare → rise ≡ live_at old.book victim
   pub named : page ≡ named_page old.book (next_page old.book)
   pub branch : IsPageBranch new.book page
   pub rows : SameRows g d old new
   pub few : new.seq < old.seq + 2 ^ 7
+  pub drawn : new.seq ≡ old.seq + rise
+  pub erased : Erased (erase_due old.book (next_page old.book)) old.die new.die
   pub tables : IsTrueStore g new
   pub calls : Went (calls_before old.book (next_page old.book)) (before + collection_reads g old.die.cells (next_page old.book)) (IsCollect (next_page old.book)) old.die new.die
 
@@ -88,9 +95,11 @@ pub record OpenReadFailed (g : Geometry) (d : Decoding) (passed before : ℕ) (o
   pub leads : (reuse_max : ℕ) → Leads reuse_max old.book changes new.book
   pub once : EachOnce changes
   pub passed_so : passes changes ≡ passed
+  pub none_offered : count_by is_offer changes ≡ 0
   pub none_sealed : sealed_records old.book changes ≡ 0
   pub rows : SameRows g d old new
   pub few : new.seq < old.seq + 2 ^ 7
+  pub erased : Erased (erase_due old.book (next_page old.book)) old.die new.die
   pub tables : IsTrueStore g new
   pub failed : ReadFailed (calls_before old.book (next_page old.book)) (before + collection_reads g old.die.cells (next_page old.book)) old.die new.die
 
@@ -100,15 +109,18 @@ pub record OpenChangeFailed (g : Geometry) (d : Decoding) (passed before : ℕ) 
   pub leads : (reuse_max : ℕ) → Leads reuse_max old.book changes new.book
   pub once : EachOnce changes
   pub passed_so : passes changes ≡ passed
+  pub none_offered : count_by is_offer changes ≡ 0
   pub none_sealed : sealed_records old.book changes ≡ 0
   pub rows : IsSound g old.die.cells → SameRows g d old new
   pub few : new.seq < old.seq + 2 ^ 7
+  pub erased : ErasedOrFailed (erase_due old.book (next_page old.book)) before old.die new.die
   pub failed : ChangeFailed (calls_before old.book (next_page old.book)) (before + collection_reads g old.die.cells (next_page old.book)) old.die new.die
 
 -- A change call of such a put failed: the row is as before or set, and one seq was drawn.
 pub record PutNextFailed (g : Geometry) (d : Decoding) (h : Header) (row : List ℕ) (old new : Store) : Type 0 where
   pub same : new ≡ record old { die = new.die; seq = old.seq + 1 }
   pub rows : SameRows g d old new ⊎ SetsRow g d h.sector row old new
+  pub erases : new.die.erases ≡ old.die.erases
   pub failed : ChangeFailed 2 0 old.die new.die
 
 -- ---- the offered unit
@@ -135,6 +147,7 @@ pub record PutOver (g : Geometry) (d : Decoding) (unit : ReuseUnit) (h : Header)
   pub book : new.book ≡ passing (recorded old.book unit.block (former_block old.book old.table h.sector)) unit
   pub seq : new.seq ≡ old.seq + 1
   pub tables : IsTrueStore g new
+  pub erases : new.die.erases ≡ old.die.erases
   pub calls : Passed (g.span + 1) g.span old.die new.die
 
 -- No cells above the unit's carry the sector: the unit is passed, and nothing else changed.
@@ -158,6 +171,7 @@ pub record OverChangeFailed (g : Geometry) (d : Decoding) (unit : ReuseUnit) (h 
   pub cells : List ℕ
   pub above : IsAbove cells (bytes_in g old unit)
   pub carries : d.second_carries cells row ≡ true
+  pub erases : new.die.erases ≡ old.die.erases
   pub failed : ChangeFailed (g.span + 1) g.span old.die new.die
 
 -- how a put over the offered unit ends

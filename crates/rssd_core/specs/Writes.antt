@@ -1,5 +1,5 @@
 -- Where a write goes.
-use Rattle.std.specs.Prelude.{◌≡◌, ℕ, true, List, Some, None}
+use Rattle.std.specs.Prelude.{◌≡◌, ℕ, ◌+◌, ◌-◌, Bool, true, false, List, Some, None}
 use Rattle.cell_die.specs.Cells.{IsAbove}
 use Rattle.reuse_pool.specs.declared.unit.ReuseUnit.{ReuseUnit}
 use Rattle.page_codec.specs.declared.place.Place.{Place}
@@ -8,8 +8,10 @@ use Rattle.page_codec.specs.Puts.{first_slot}
 use Rattle.rssd_core.specs.declared.device.Placed.{Placed}
 use Rattle.rssd_core.specs.declared.device.Placed.TheVariants.{First, Second, Declined}
 use Rattle.rssd_core.specs.Rules.{next_page, offer_of}
-use Rattle.rssd_core.specs.Calls.{named_page}
-use Rattle.rssd_core.specs.DeviceValue.{Numbers, DeviceView, LiveAt}
+use Rattle.rssd_core.specs.Calls.{copies_due, named_page, offer_reads}
+use Rattle.rssd_core.specs.Erases.{erase_due, Erased, ErasedOrFailed}
+use Rattle.page_codec.specs.Records.{live_record}
+use Rattle.rssd_core.specs.DeviceValue.{Numbers, DeviceView}
 
 -- the first page of a unit
 abbrev pub page_of_unit : Numbers → ReuseUnit → ℕ
@@ -35,17 +37,49 @@ OfferDeclines d view sector = (unit : ReuseUnit) × (offer_of view.book ≡ Some
 abbrev pub slot_of_unit : Numbers → ReuseUnit → Place
 slot_of_unit d unit = record { page = page_of_unit d unit; slot = unit.slot }
 
--- the sector stands in the offer's slot, over the unit's old cells
+-- the live record of a sector stands in this slot; it is of this kind, and has the last number that was drawn
+abbrev pub RecordAt : Numbers → DeviceView → ℕ → Place → ℕ → Type 0
+RecordAt d view sector place kind =
+    live_record d.geometry view.die.cells sector ≡ Some (record { place = place; header = record { sector = sector; seq = view.seq - 1; kind = kind } })
+
+-- the sector's record of kind 1 stands in the offer's slot, over the unit's old cells
 pub record OverUnit (d : Numbers) (old new : DeviceView) (sector : ℕ) (unit : ReuseUnit) : Type 0 where
-  pub live : LiveAt d new sector (slot_of_unit d unit)
+  pub live : RecordAt d new sector (slot_of_unit d unit) 1
   pub above : IsAbove (cells_of_unit d new unit) (cells_of_unit d old unit)
 
--- the sector stands in slot 0 of the page that comes next by the book
-abbrev pub OnCleanPage : Numbers → DeviceView → DeviceView → ℕ → Type 0
-OnCleanPage d old new sector = LiveAt d new sector (first_slot (named_page old.book (next_page old.book)))
+-- the sector's record of this kind stands in slot 0 of the page that comes next by the book
+abbrev pub OnCleanPage : Numbers → DeviceView → DeviceView → ℕ → ℕ → Type 0
+OnCleanPage d old new sector kind = RecordAt d new sector (first_slot (named_page old.book (next_page old.book))) kind
+
+-- What a record on a clean page draws and erases: a number for each copy of a collection and one for itself, and the block that
+-- was to be erased for its page.
+pub record GetsPage (old new : DeviceView) : Type 0 where
+  pub drawn : new.seq ≡ old.seq + copies_due old.book (next_page old.book) + 1
+  pub erased : Erased (erase_due old.book (next_page old.book)) old.die new.die
+
+-- a record over a unit draws one number, and erases nothing
+pub record TakesOver (old new : DeviceView) : Type 0 where
+  pub drawn : new.seq ≡ old.seq + 1
+  pub erases : new.die.erases ≡ old.die.erases
+
+-- what a write that was answered so draws and erases
+abbrev pub WriteDraws : DeviceView → DeviceView → Placed → Type 0
+WriteDraws old new First = GetsPage old new
+WriteDraws old new Second = TakesOver old new
+WriteDraws old new Declined = GetsPage old new
+
+-- what a write that failed may have erased
+pub record WriteErased (d : Numbers) (old : DeviceView) (bytes : List ℕ) (new : DeviceView) : Type 0 where
+  pub over : OfferCarries d old bytes → new.die.erases ≡ old.die.erases
+  pub clean : (OfferCarries d old bytes → ⊥) → ErasedOrFailed (erase_due old.book (next_page old.book)) (offer_reads d.geometry (offer_of old.book)) old.die new.die
+
+-- A trim of a sector that holds bytes leaves a record of kind 3 on the page that comes next; any other changes nothing.
+abbrev pub TrimLeaves : Numbers → DeviceView → DeviceView → ℕ → Bool → Type 0
+TrimLeaves d old new sector true = OnCleanPage d old new sector 3 × GetsPage old new
+TrimLeaves d old new sector false = new ≡ old
 
 -- where a write that was answered so went
 abbrev pub WentTo : Numbers → DeviceView → DeviceView → ℕ → List ℕ → Placed → Type 0
-WentTo d old new sector bytes First = (offer_of old.book ≡ None) × OnCleanPage d old new sector
+WentTo d old new sector bytes First = (offer_of old.book ≡ None) × OnCleanPage d old new sector 1
 WentTo d old new sector bytes Second = OfferCarries d old bytes × ((unit : ReuseUnit) → offer_of old.book ≡ Some unit → OverUnit d old new sector unit)
-WentTo d old new sector bytes Declined = OfferDeclines d old bytes × OnCleanPage d old new sector
+WentTo d old new sector bytes Declined = OfferDeclines d old bytes × OnCleanPage d old new sector 1

@@ -14,6 +14,7 @@ mod placing;
 mod row;
 mod trim;
 pub mod whole;
+pub mod worst;
 
 pub use device::{Counts, FtlError, MountError, Placed, Plan, Refused};
 pub use mounting::mount;

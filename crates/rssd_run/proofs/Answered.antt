@@ -1,9 +1,16 @@
 -- What a line on a device left, by its reply, is a step of a session with power, and a played step on any die.
-use Rattle.std.proofs.Common.{◌≡◌, inl, inr, ℕ, List, true, false, refl, arith, sym, ap, ◌∙◌, subst}
+use Rattle.std.proofs.Common.{◌≡◌, inl, inr, ℕ, ◌^◌, ◌<◌, List, true, false, refl, arith, sym, ap, ◌∙◌, subst}
 use Rattle.cell_die.specs.Calls.{IsQuiet, PassedWithin}
 use Rattle.cell_die.proofs.Quiet.{quiet_stays, quiet_stays_within, quiet_change, quiet_read}
 use Rattle.page_codec.specs.Sound.{IsSound}
-use Rattle.rssd_run.specs.Step.{AlwaysAnswered}
+use Rattle.rssd_run.specs.Step.{AlwaysAnswered, TrueWhileOn, KeepsDie}
+use Rattle.rssd_run.specs.View.{View, Event, StandsFor, NoFailure}
+use Rattle.rssd_run.specs.Placing.{PlacedExactly}
+use Rattle.rssd_core.specs.Failures.{Tells}
+use Rattle.rssd_run.proofs.Came.{none_came, went_tells, read_failed_tells, change_failed_tells, passed_went}
+use Rattle.rssd_run.proofs.CommandSteps.{bounded}
+use Rattle.rssd_run.proofs.Parts.{keeps_same, keeps_none}
+use Rattle.rssd_run.proofs.Still.{lowers_none}
 use Rattle.rssd_script.specs.declared.lines.Line.{Line}
 use Rattle.rssd_script.specs.declared.lines.Line.TheVariants.{Write, Read, Trim, Idle}
 use Rattle.rssd_script.specs.declared.replies.Reply.{Reply}
@@ -12,7 +19,7 @@ use Rattle.rssd_core.specs.declared.device.Placed.{Placed}
 use Rattle.rssd_core.specs.declared.device.Placed.TheVariants.{First as PutFirst, Second as PutSecond, Declined as PutDeclined}
 use Rattle.rssd_core.specs.SectorArray.{filled_up, written, trimmed}
 use Rattle.rssd_core.specs.DeviceValue.{Numbers, DeviceValue, rows_of}
-use Rattle.rssd_core.specs.Outcomes.{Faulted, ReadFault, ChangeFault, TrueWhileRunning}
+use Rattle.rssd_core.specs.Outcomes.{Holds, Faulted, ReadFault, ChangeFault, TrueWhileRunning}
 use Rattle.rssd_core.specs.Within.{WithinWrite, WithinTrim, WithinIdle}
 use Rattle.rssd_run.specs.ArrayWithCuts.{ArrayState, On, Off}
 use Rattle.rssd_run.specs.Held.{Tallies, on, off, reply_of}
@@ -21,9 +28,9 @@ use Rattle.rssd_run.specs.Shows.{Mounted}
 use Rattle.rssd_run.specs.Played.{IsPlayed, WroteSo, AnsweredWrite, AnsweredRead, AnsweredTrim, AnsweredIdle, Answered, IsPlayedStep, Plays, PlaysQuiet}
 use Rattle.rssd_run.proofs.WriteSteps.{event_of}
 use Rattle.rssd_run.proofs.Stepped.{array_runs, array_stops, wrote_steps, write_fault_steps, trimmed_steps, trim_fault_steps, idled_steps, idle_fault_steps, read_steps, read_fault_steps}
-use Rattle.rssd_run.proofs.Refused.{Stays, stays_step, still_steps, off_step, write_range, write_long, write_spent, read_range, trim_range, trim_spent}
+use Rattle.rssd_run.proofs.Refused.{Stays, still_steps, off_step, write_range, write_long, write_spent, read_range, trim_range, trim_spent}
 use Rattle.rssd_run.proofs.Sessions.{runs_array, stops_array, shows_stands, small_plus}
-use Rattle.rssd_run.proofs.PlayedSteps.{step_played, played_first, played_second, played_declined, played_write_read_fault, played_write_change_fault, played_trim, played_trim_read_fault, played_trim_change_fault, played_idle, played_idle_read_fault, played_idle_change_fault, played_read, played_read_fault}
+use Rattle.rssd_run.proofs.PlayedSteps.{step_played, played_book, played_first, played_second, played_declined, played_write_read_fault, played_write_change_fault, played_trim, played_trim_read_fault, played_trim_change_fault, played_idle, played_idle_read_fault, played_idle_change_fault, played_read, played_read_fault}
 
 -- a write that was placed
 pub answered_wrote : (d : Numbers) (sector : ℕ) (bytes : List ℕ) (placed : Placed) (old new : DeviceValue) → WroteSo d sector bytes placed old new → AnsweredWrite d sector bytes (reply_of placed) old new
@@ -97,6 +104,37 @@ module _ (d : Numbers) (old new : DeviceValue) (running : old.stopped ≡ false)
       let s = change sound f base in
       (Off (rows_of d old.view) done, array_stops new.stopped f.stopped (rows_of d new.view) (rows_of d old.view) done s.stands_after, s))
 
+-- a line that leaves a view as it is, on a die that need not tell its power
+stays_played : (d : Numbers) (v : View) (line : Line) (reply : Reply) → IsPlayed line → StandsFor d v → TrueWhileOn d v → v.device.first < 2 ^ 64 → v.device.second < 2 ^ 64 → v.device.declined < 2 ^ 64
+    → Stays d v line reply → IsPlayedStep d (event_of line reply v v)
+stays_played d v line reply is stands book small_first small_second small_declined s =
+    let e : Event = event_of line reply v v in
+    let none : NoFailure e = none_came v.device.die v.device.die (lowers_none {Bounded = ⊥} v.device.die) in
+    record {
+      row = s.row;
+      stands_before = stands;
+      stands_after = stands;
+      off = λ h. absurd (s.no_fault h);
+      keeps = keeps_same d v.device;
+      placed = λ sector bytes tried.
+          let p : PlacedExactly d e sector (filled_up d.geometry.sector_bytes bytes) = s.placed sector bytes tried in
+          record {
+            second = (λ h. (s.no_fault, (p.second.0 h).1), λ h. p.second.1 (none, h.1));
+            declined = (λ h. (s.no_fault, (p.declined.0 h).1), λ h. p.declined.1 (none, h.1));
+            first = (λ h. (s.no_fault, (p.first.0 h).1), λ h. p.first.1 (none, h.1));
+            over_unit = p.over_unit;
+            on_clean = p.on_clean;
+          };
+      cause = λ h. absurd (s.no_fault h);
+      refused = s.refused;
+      idle = s.idle;
+      stays = λ h. record { cells = refl; erases = refl };
+      tallies = record { first = omega (arith, s.tallies.0, small_first); second = omega (arith, s.tallies.1, small_second); declined = omega (arith, s.tallies.2, small_declined) };
+      true_book = book;
+      moves = played_book d v v line reply is s.moves;
+      leaves = s.leaves;
+    }
+
 module _ (d : Numbers) (old new : DeviceValue) (running : old.stopped ≡ false) where
   plays_same : (line : Line) (reply : Reply) → IsPlayed line → new ≡ old → ((base : Tallies) → Stays d (on d base old) line reply) → Plays d line reply old new
   plays_same line reply is same stays =
@@ -104,7 +142,7 @@ module _ (d : Numbers) (old new : DeviceValue) (running : old.stopped ≡ false)
       (plays_from d old old running line reply (λ base sound book. (
         On (rows_of d old.view),
         array_runs old.stopped running (rows_of d old.view),
-        step_played d (on d base old) (on d base old) line reply is (stays_step d (on d base old) line reply refl (λ o. book running) (omega arith) (omega arith) (omega arith) (stays base)),
+        stays_played d (on d base old) line reply is refl (λ o. book running) (omega arith) (omega arith) (omega arith) (stays base),
       )))
 
   write_plays : (sector : ℕ) (bytes : List ℕ) (reply : Reply) → AnsweredWrite d sector bytes reply old new → Plays d (Write sector bytes) reply old new
@@ -218,3 +256,51 @@ module _ (d : Numbers) (old new : DeviceValue) where
   answered_quiet (Trim sector) reply a = trim_quiet sector reply a
   answered_quiet (Idle n) reply a = idle_quiet n reply a
   answered_quiet line reply a = absurd a
+
+-- ---- what becomes of the die, whatever its cells
+
+module _ (d : Numbers) (old new : DeviceValue) where
+  so : Holds d old new → (Tells old.view.die → Tells new.view.die) → KeepsDie d old.view.die new.view.die
+  so holds tells = record { shape = holds.kept.shape; tells = tells; never_falls = holds.kept.never_falls; no_pad = holds.no_pad; sound = holds.sound }
+
+  same_kept : new ≡ old → KeepsDie d old.view.die new.view.die
+  same_kept same = subst (λ (device : DeviceValue). KeepsDie d old.view.die device.view.die) (sym same) (keeps_none d old.view.die)
+
+  fault_tells : {Within : ℕ → ℕ → Type 0} {done : List (List ℕ)} → Faulted d Within done old new → Tells old.view.die → Tells new.view.die
+  fault_tells (inl f) = read_failed_tells old.view.die new.view.die f.failed
+  fault_tells (inr f) = change_failed_tells old.view.die new.view.die f.failed
+
+  write_kept : (sector : ℕ) (bytes : List ℕ) (reply : Reply) → AnsweredWrite d sector bytes reply old new → KeepsDie d old.view.die new.view.die
+  write_kept sector bytes First a = so a.holds (went_tells old.view.die new.view.die a.wrote.calls)
+  write_kept sector bytes Second a = so a.holds (went_tells old.view.die new.view.die a.wrote.calls)
+  write_kept sector bytes Declined a = so a.holds (went_tells old.view.die new.view.die a.wrote.calls)
+  write_kept sector bytes Fault a = so a.holds (fault_tells a.fault.fault)
+  write_kept sector bytes Range (far, same) = same_kept same
+  write_kept sector bytes Long (near, many, same) = same_kept same
+  write_kept sector bytes Spent (near, fits, spent, same) = same_kept same
+  write_kept sector bytes reply a = absurd a
+
+  read_kept : (sector : ℕ) (reply : Reply) → AnsweredRead d sector reply old new → KeepsDie d old.view.die new.view.die
+  read_kept sector (Bytes bytes) a = so a.holds (went_tells old.view.die new.view.die (passed_went {Bounded = ⊥} a.calls))
+  read_kept sector Fault a = so a.holds (read_failed_tells old.view.die new.view.die a.failed)
+  read_kept sector Range (far, same) = same_kept same
+  read_kept sector reply a = absurd a
+
+  trim_kept : (sector : ℕ) (reply : Reply) → AnsweredTrim d sector reply old new → KeepsDie d old.view.die new.view.die
+  trim_kept sector Done a = so a.holds (went_tells old.view.die new.view.die a.trimmed.calls)
+  trim_kept sector Fault a = so a.holds (fault_tells a.fault.fault)
+  trim_kept sector Range (far, same) = same_kept same
+  trim_kept sector Spent (near, spent, same) = same_kept same
+  trim_kept sector reply a = absurd a
+
+  idle_kept : (n : ℕ) (reply : Reply) → AnsweredIdle d n reply old new → KeepsDie d old.view.die new.view.die
+  idle_kept n (Moves k) a = so a.0 (went_tells old.view.die new.view.die (bounded a.1.calls))
+  idle_kept n Fault a = so a.0 (fault_tells a.1.fault)
+  idle_kept n reply a = absurd a
+
+  pub answered_keeps : (line : Line) (reply : Reply) → Answered d line reply old new → KeepsDie d old.view.die new.view.die
+  answered_keeps (Write sector bytes) reply a = write_kept sector bytes reply a
+  answered_keeps (Read sector) reply a = read_kept sector reply a
+  answered_keeps (Trim sector) reply a = trim_kept sector reply a
+  answered_keeps (Idle n) reply a = idle_kept n reply a
+  answered_keeps line reply a = absurd a

@@ -1,5 +1,5 @@
 -- Where nothing is armed and no line arms anything, no reply is `fault` or `no spare`, and the array stays on while memory lasts.
-use Rattle.std.proofs.Common.{◌≡◌, ◌⊎◌, inl, inr, ℕ, ◌<◌, false, All, IsTrue, List, [], ◌∷◌, length, slice_index_or, Option, refl, sym, ap, ◌∙◌, arith, subst}
+use Rattle.std.proofs.Common.{◌≡◌, ◌⊎◌, inl, inr, ℕ, ◌<◌, false, All, IsTrue, List, [], ◌∷◌, length, slice_index_or, refl, sym, ap, ◌∙◌, arith, subst}
 use Rattle.std.proofs.lemmas.Bool.{cases_lt, false≢true}
 use Rattle.std.proofs.lemmas.List.{get_or_past}
 use Rattle.rssd_core.specs.SectorArray.{written, trimmed}
@@ -14,6 +14,7 @@ use Rattle.block_state.specs.declared.state.State.{State}
 use Rattle.block_state.specs.declared.state.State.TheVariants.{Clean, Active, Used, Recycled, Reused, Spare}
 use Rattle.block_state.specs.State.{is_spare}
 use Rattle.block_state.specs.Book.{BookValue, IsSpare, state_at}
+use Rattle.rssd_io.specs.Event.{Event as Act}
 use Rattle.rssd_script.specs.declared.lines.Line.{Line}
 use Rattle.rssd_script.specs.declared.lines.Line.TheVariants.{Write, Read, Trim, Idle, Cut, FailRead, Mount, Stat}
 use Rattle.rssd_script.specs.declared.replies.Reply.{Reply}
@@ -52,7 +53,7 @@ never_arming (FailRead n) reply e arming = cc
 never_arming Mount reply e arming = arming
 never_arming Stat reply e arming = arming
 
-step_fails : (d : Numbers) (e : Event) → IsStep d e → IsUnarmed d e.before → NeverFails e
+pub step_fails : (d : Numbers) (e : Event) → IsStep d e → IsUnarmed d e.before → NeverFails e
 step_fails d e step unarmed = record {
   no_fault = λ fault. elim (step.fault.came.0 fault) [
     | inl cut ↦ (let armed = cut.0 in let none = unarmed.cut in omega (arith, armed, none))
@@ -69,7 +70,7 @@ step_fails d e step unarmed = record {
 is_on : (rows : List (List ℕ)) (next : ArrayState) → next ≡ On rows → IsOn next
 is_on rows next e = subst IsOn (sym e) tt
 
-write_on : (rows new : List (List ℕ)) (reply : Reply) (next : ArrayState) → WriteRow rows new reply next → (reply ≡ Fault → ⊥) → IsOn next
+pub write_on : (rows new : List (List ℕ)) (reply : Reply) (next : ArrayState) → WriteRow rows new reply next → (reply ≡ Fault → ⊥) → IsOn next
 write_on rows new First next row good = is_on new next row
 write_on rows new Second next row good = is_on new next row
 write_on rows new Declined next row good = is_on new next row
@@ -79,20 +80,20 @@ write_on rows new Long next row good = is_on rows next row
 write_on rows new Spent next row good = is_on rows next row
 write_on rows new reply next row good = absurd row
 
-trim_on : (rows new : List (List ℕ)) (reply : Reply) (next : ArrayState) → TrimRow rows new reply next → (reply ≡ Fault → ⊥) → IsOn next
+pub trim_on : (rows new : List (List ℕ)) (reply : Reply) (next : ArrayState) → TrimRow rows new reply next → (reply ≡ Fault → ⊥) → IsOn next
 trim_on rows new Done next row good = is_on new next row
 trim_on rows new Fault next row good = absurd (good refl)
 trim_on rows new Range next row good = is_on rows next row
 trim_on rows new Spent next row good = is_on rows next row
 trim_on rows new reply next row good = absurd row
 
-read_on : (rows : List (List ℕ)) (bytes : List ℕ) (reply : Reply) (next : ArrayState) → ReadRow rows bytes reply next → IsOn next
+pub read_on : (rows : List (List ℕ)) (bytes : List ℕ) (reply : Reply) (next : ArrayState) → ReadRow rows bytes reply next → IsOn next
 read_on rows bytes (Bytes told) next row = is_on rows next row.1
 read_on rows bytes Fault next row = is_on rows next row
 read_on rows bytes Range next row = is_on rows next row
 read_on rows bytes reply next row = absurd row
 
-idle_on : (rows : List (List ℕ)) (reply : Reply) (next : ArrayState) → IdleRow rows reply next → (reply ≡ Fault → ⊥) → IsOn next
+pub idle_on : (rows : List (List ℕ)) (reply : Reply) (next : ArrayState) → IdleRow rows reply next → (reply ≡ Fault → ⊥) → IsOn next
 idle_on rows (Moves n) next row good = is_on rows next row
 idle_on rows Fault next row good = absurd (good refl)
 idle_on rows reply next row good = absurd row
@@ -101,7 +102,7 @@ arm_on : (rows : List (List ℕ)) (reply : Reply) (next : ArrayState) → ArmRow
 arm_on rows Done next row = is_on rows next row
 arm_on rows reply next row = absurd row
 
-stat_on : (rows : List (List ℕ)) (reply : Reply) (next : ArrayState) → StatRow (On rows) reply next → IsOn next
+pub stat_on : (rows : List (List ℕ)) (reply : Reply) (next : ArrayState) → StatRow (On rows) reply next → IsOn next
 stat_on rows (Counts first second declined moved erased) next row = is_on rows next row
 stat_on rows reply next row = absurd row
 
@@ -206,7 +207,7 @@ step_free d e step unarmed =
       ]
     ]
 
-step_unarmed : (d : Numbers) (e : Event) → IsStep d e → IsUnarmed d e.before → is_arming e.line ≡ false → IsUnarmed d e.after
+pub step_unarmed : (d : Numbers) (e : Event) → IsStep d e → IsUnarmed d e.before → is_arming e.line ≡ false → IsUnarmed d e.after
 step_unarmed d e step unarmed other =
     let low = step.armed.lowers (never_arming e.line e.reply other) (step_fails d e step unarmed).no_fault in
     let cut = low.cut.lower in
@@ -248,14 +249,14 @@ runs_calmly d before events after run unarmed on none = record {
 
 -- ---- the first view of a run
 
-start_unarmed : (head : ImageHead) (view : View) → IsBlankStart head view → IsUnarmed (numbers_named head) view
+pub start_unarmed : (head : ImageHead) (view : View) → IsBlankStart head view → IsUnarmed (numbers_named head) view
 start_unarmed head view start =
     let same : view.device.die ≡ start.device.view.die = ap (λ (v : DeviceView). v.die) start.same in
     let q = quiet_after _ _ start.die.failures start.device.view.die.failures start.blank.quiet start.mounts.calls.failures in
     record { cut = ap cut_of same ∙ q.0; read = ap read_failure_of same ∙ q.1; free = start.sound.one_free }
 
-pub replays_calmly : (head : ImageHead) (lines : List Line) (written written_after : Option (List ℕ)) (r : Replays head lines written written_after) → All (λ line. is_arming line ≡ false) lines → IsCalm r.run.events
-replays_calmly head lines written written_after r none =
+pub replays_calmly : (head : ImageHead) (lines : List Line) (log log_after : List Act) (r : Replays head lines log log_after) → All (λ line. is_arming line ≡ false) lines → IsCalm r.run.events
+replays_calmly head lines log log_after r none =
     runs_calmly (numbers_named head) r.before r.run.events r.after r.run.run (start_unarmed head r.before r.start)
     (subst IsOn (sym r.start.zeros) tt) (subst (All (λ line. is_arming line ≡ false)) (sym r.run.of_lines) none)
 
@@ -272,9 +273,9 @@ image_unarmed head die view quiet start =
           (book_free d start.device.view.die.cells start.device.view.book start.device.view.seq (start.mounts.true_book start.mounts.running));
     }
 
-pub images_calmly : (head : ImageHead) (die : DieState) (lines : List Line) (written written_after : Option (List ℕ)) (last : DieState) (quiet : IsQuiet die) (r : RunsOn head die lines written written_after last)
+pub images_calmly : (head : ImageHead) (die : DieState) (lines : List Line) (log log_after : List Act) (last : DieState) (quiet : IsQuiet die) (r : RunsOn head die lines log log_after last)
     (calm : CalmFor (numbers_named head) die lines) → All (λ line. is_arming line ≡ false) lines → IsCalm (r.run calm).run.events
-images_calmly head die lines written written_after last quiet r calm none =
-    let to : RunsTo (numbers_named head) r.before lines written written_after last = r.run calm in
+images_calmly head die lines log log_after last quiet r calm none =
+    let to : RunsTo (numbers_named head) r.before lines log log_after last = r.run calm in
     runs_calmly (numbers_named head) r.before to.run.events to.after to.run.run (image_unarmed head die r.before quiet r.start)
     (subst IsOn (sym r.start.rows) tt) (subst (All (λ line. is_arming line ≡ false)) (sym to.run.of_lines) none)

@@ -1,22 +1,22 @@
 -- Trims and idle calls: what a device's call leaves makes a step.
-use Rattle.std.proofs.Common.{inl, inr, ℕ, ◌<◌, refl, arith, ap}
+use Rattle.std.proofs.Common.{inl, inr, ℕ, ◌<◌, true, false, refl, arith, ap}
 use Rattle.rssd_script.specs.declared.lines.Line.TheVariants.{Trim, Idle}
 use Rattle.rssd_script.specs.declared.replies.Reply.TheVariants.{Done, Moves, Fault}
 use Rattle.rssd_core.specs.SectorArray.{trimmed}
 use Rattle.rssd_core.specs.DeviceValue.{Numbers, DeviceView, DeviceValue, rows_of}
 use Rattle.rssd_core.specs.Failures.{TellsPower}
-use Rattle.rssd_core.specs.Within.{WithinTrim, WithinIdle, Went}
+use Rattle.rssd_core.specs.Within.{WithinTrim, WithinIdle, Went, holds_bytes, record_of}
 use Rattle.rssd_core.specs.Outcomes.{Holds, Trimmed, TrimFault, Idled, IdleFault, ReadFault, ChangeFault}
 use Rattle.rssd_run.specs.ArrayWithCuts.{On, Off}
 use Rattle.rssd_run.specs.View.{Event, NoFailure}
 use Rattle.rssd_run.specs.Held.{Tallies, plus, on, off, Calm}
 use Rattle.rssd_run.specs.Step.{IsStep}
-use Rattle.rssd_run.proofs.Came.{went_lowers, none_came, ACutCame, change_came, AReadCame, read_came, change_rose, read_rose}
+use Rattle.rssd_run.proofs.Came.{went_lowers, none_came, ACutCame, change_came, AReadCame, read_came, change_rose, read_rose, went_tells, went_power, change_failed_tells, read_failed_tells}
 use Rattle.rssd_core.specs.IdleRule.{IdleMoves, IdleUnfinished}
 use Rattle.cell_die.specs.DieState.{DieState}
 use Rattle.cell_die.specs.Calls.{PassedWithin}
 use Rattle.rssd_run.proofs.WriteSteps.{event_of, must_not, calm_rows}
-use Rattle.rssd_run.proofs.Parts.{not_refused, no_fault, keeps, plus_book, plus_seq}
+use Rattle.rssd_run.proofs.Parts.{not_refused, no_fault, keeps, plus_book, plus_seq, trim_plus_leaves, trim_book_so}
 
 trim_plus : (d : Numbers) (base : Tallies) (old : DeviceView) (sector changes reads : ℕ) → WithinTrim d old sector changes reads → WithinTrim d (plus base old) sector changes reads
 trim_plus d base old sector changes reads w = record { changes_at_most = w.changes_at_most; reads_at_most = w.reads_at_most }
@@ -52,8 +52,8 @@ unfinished_plus d base old new n m = record {
   by_rule = m.by_rule;
   one_more = m.one_more;
   unfinished = elim m.unfinished [
-    | inl unread ↦ inl (record { cells = unread.cells; seq = unread.seq; recycled = unread.recycled; failed = unread.failed })
-    | inr broken ↦ inr (record { rows = broken.rows; seq = broken.seq; book = broken.book; failed = broken.failed })
+    | inl unread ↦ inl (record { cells = unread.cells; seq = unread.seq; recycled = unread.recycled; victim = unread.victim; is_victim = unread.is_victim; failed = unread.failed; by_then = unread.by_then })
+    | inr broken ↦ inr (record { rows = broken.rows; seq = broken.seq; book = broken.book; victim = broken.victim; is_victim = broken.is_victim; first = broken.first; is_first = broken.is_first; failed = broken.failed })
   ];
 }
 
@@ -71,7 +71,7 @@ trimmed_step d base old new sector in_range power holds w =
       stands_before = refl;
       stands_after = refl;
       off = λ h. cc;
-      keeps = keeps d base old new holds;
+      keeps = keeps d base old new holds (went_tells old.view.die new.view.die w.calls);
       placed = λ s b t. absurd (let l = t.write in cc);
       fault = no_fault e (λ h. cc) none;
       answers = record {
@@ -85,6 +85,8 @@ trimmed_step d base old new sector in_range power holds w =
       true_book = λ h. holds.true_book w.running;
       moves = (record { book = plus_book d base old.view new.view (λ rise at came. at power came) w.book; seq = plus_seq d base old.view new.view w.seq }, tt);
       armed = record { arms = tt; lowers = λ a f. lowers; fault = λ h. cc };
+      power = λ on tells. went_power old.view.die new.view.die power w.calls;
+      leaves = trim_plus_leaves d base old.view new.view sector (holds_bytes (record_of d old.view sector)) w.leaves;
     }
 
 pub trim_read_fault : (d : Numbers) (base : Tallies) (old new : DeviceValue) (sector : ℕ) → sector < d.geometry.sectors → TellsPower old.view.die → Holds d old new
@@ -98,7 +100,7 @@ trim_read_fault d base old new sector in_range power holds w f =
       stands_before = refl;
       stands_after = refl;
       off = λ h c. record { only = λ off. absurd off; always = λ on more. omega (arith, f.failed.change_faults, more) };
-      keeps = keeps d base old new holds;
+      keeps = keeps d base old new holds (read_failed_tells old.view.die new.view.die f.failed);
       placed = λ s b t. absurd (let l = t.write in cc);
       fault = record {
         came = (λ h. inr came.came, λ h. refl);
@@ -114,7 +116,7 @@ trim_read_fault d base old new sector in_range power holds w f =
         tallies = record { first = omega (arith, w.counts.first); second = omega (arith, w.counts.second); declined = omega (arith, w.counts.declined) };
       };
       true_book = λ h. holds.true_book f.running;
-      moves = (record { book = plus_book d base old.view new.view (λ rise at came. at power came) w.book; seq = plus_seq d base old.view new.view w.seq }, tt);
+      moves = (record { book = plus_book d base old.view new.view (λ rise at came. at power came) (trim_book_so d old new sector false f.running w); seq = plus_seq d base old.view new.view w.seq }, tt);
       armed = record {
         arms = tt;
         lowers = λ a not. absurd (not refl);
@@ -126,6 +128,8 @@ trim_read_fault d base old new sector in_range power holds w f =
           read_came = λ read. (came.within, came.cut, came.form);
         };
       };
+      power = λ on tells. came.power;
+      leaves = w.erased;
     }
 
 pub trim_change_fault : (d : Numbers) (base : Tallies) (old new : DeviceValue) (sector : ℕ) → sector < d.geometry.sectors → TellsPower old.view.die → Calm d old.view.die → Holds d old new
@@ -140,7 +144,7 @@ trim_change_fault d base old new sector in_range power calm holds w f =
       stands_before = refl;
       stands_after = calm_rows d old new calm came f.rows;
       off = λ h c. record { only = λ off. f.failed.change_faults; always = λ on. absurd on };
-      keeps = keeps d base old new holds;
+      keeps = keeps d base old new holds (change_failed_tells old.view.die new.view.die f.failed);
       placed = λ s b t. absurd (let l = t.write in cc);
       fault = record {
         came = (λ h. inl came.came, λ h. refl);
@@ -156,7 +160,7 @@ trim_change_fault d base old new sector in_range power calm holds w f =
         tallies = record { first = omega (arith, w.counts.first); second = omega (arith, w.counts.second); declined = omega (arith, w.counts.declined) };
       };
       true_book = λ on. absurd on;
-      moves = (record { book = plus_book d base old.view new.view (λ rise at came. at power came) w.book; seq = plus_seq d base old.view new.view w.seq }, tt);
+      moves = (record { book = plus_book d base old.view new.view (λ rise at came. at power came) (trim_book_so d old new sector true f.stopped w); seq = plus_seq d base old.view new.view w.seq }, tt);
       armed = record {
         arms = tt;
         lowers = λ a not. absurd (not refl);
@@ -168,6 +172,8 @@ trim_change_fault d base old new sector in_range power calm holds w f =
           read_came = λ read. absurd (omega (arith, came.read.to_come read.0, read.1));
         };
       };
+      power = λ on. absurd on;
+      leaves = w.erased;
     }
 
 pub idled_step : (d : Numbers) (base : Tallies) (old new : DeviceValue) (n k : ℕ) → TellsPower old.view.die → Holds d old new
@@ -181,7 +187,7 @@ idled_step d base old new n k power holds w =
       stands_before = refl;
       stands_after = refl;
       off = λ h. cc;
-      keeps = keeps d base old new holds;
+      keeps = keeps d base old new holds (went_tells old.view.die new.view.die (bounded w.calls));
       placed = λ s b t. absurd (let l = t.write in cc);
       fault = no_fault e (λ h. cc) none;
       answers = record {
@@ -195,6 +201,8 @@ idled_step d base old new n k power holds w =
       true_book = λ h. holds.true_book w.running;
       moves = (record { book = plus_book d base old.view new.view (λ rise at came. at power came) w.book; seq = plus_seq d base old.view new.view w.seq }, moves_plus d base old.view new.view k w.moves);
       armed = record { arms = tt; lowers = λ a f. lowers; fault = λ h. cc };
+      power = λ on tells. went_power old.view.die new.view.die power (bounded w.calls);
+      leaves = w.erases;
     }
 
 pub idle_read_fault : (d : Numbers) (base : Tallies) (old new : DeviceValue) (n : ℕ) → TellsPower old.view.die → Holds d old new
@@ -208,7 +216,7 @@ idle_read_fault d base old new n power holds w f =
       stands_before = refl;
       stands_after = refl;
       off = λ h c. record { only = λ off. absurd off; always = λ on more. omega (arith, f.failed.change_faults, more) };
-      keeps = keeps d base old new holds;
+      keeps = keeps d base old new holds (read_failed_tells old.view.die new.view.die f.failed);
       placed = λ s b t. absurd (let l = t.write in cc);
       fault = record {
         came = (λ h. inr came.came, λ h. refl);
@@ -236,6 +244,8 @@ idle_read_fault d base old new n power holds w f =
           read_came = λ read. (came.within, came.cut, came.form);
         };
       };
+      power = λ on tells. came.power;
+      leaves = w.erases;
     }
 
 pub idle_change_fault : (d : Numbers) (base : Tallies) (old new : DeviceValue) (n : ℕ) → TellsPower old.view.die → Calm d old.view.die → Holds d old new
@@ -250,7 +260,7 @@ idle_change_fault d base old new n power calm holds w f =
       stands_before = refl;
       stands_after = calm_rows d old new calm came f.rows;
       off = λ h c. record { only = λ off. f.failed.change_faults; always = λ on. absurd on };
-      keeps = keeps d base old new holds;
+      keeps = keeps d base old new holds (change_failed_tells old.view.die new.view.die f.failed);
       placed = λ s b t. absurd (let l = t.write in cc);
       fault = record {
         came = (λ h. inl came.came, λ h. refl);
@@ -278,4 +288,6 @@ idle_change_fault d base old new n power calm holds w f =
           read_came = λ read. absurd (omega (arith, came.read.to_come read.0, read.1));
         };
       };
+      power = λ on. absurd on;
+      leaves = w.erases;
     }

@@ -15,6 +15,7 @@ use Rattle.rssd_core.specs.declared.device.MountError.TheVariants.{OutOfMemory, 
 use Rattle.rssd_core.specs.DeviceValue.{Numbers, DeviceView, DeviceValue, rows_of}
 use Rattle.rssd_core.specs.Failures.{cut_of, cut_in, read_in}
 use Rattle.rssd_core.specs.Mount.{Fits, Refuses, NoCounts, EveryBlockLive, numbers_of}
+use Rattle.rssd_io.specs.Event.{Event as Act, Grows}
 use Rattle.rssd_script.specs.declared.lines.Line.{Line}
 use Rattle.rssd_run.specs.ArrayWithCuts.{On}
 use Rattle.rssd_run.specs.View.{View}
@@ -22,7 +23,11 @@ use Rattle.rssd_run.specs.Held.{Tallies, plus, on}
 use Rattle.rssd_run.specs.Steps.{ArrayIs}
 use Rattle.rssd_run.specs.Run.{RunsSession, CutsOffSession, CalmFor}
 use Rattle.rssd_run.specs.Schemes.{meaning_named, HasRow}
-use Rattle.rssd_run.specs.Shows.{Holding, Mounted, Closed, Nothing, SessionValue, ShowsHolding, Starts, HasNumbers, HasDie}
+use Rattle.rssd_run.specs.Shows.{Holding, Mounted, Closed, Nothing, SessionValue, ShowsHolding, Starts, HasNumbers, HasDie, KeepsSession}
+use Rattle.rssd_run.specs.Step.{KeepsDie}
+use Rattle.rssd_run.proofs.Came.{went_tells, passed_went}
+use Rattle.rssd_run.proofs.Parts.{keeps_more}
+use Rattle.rssd_run.proofs.Still.{keeps_die}
 use Rattle.rssd_run.specs.Heads.{plan_of, numbers_named}
 use Rattle.rssd_run.specs.DieRuns.{IsReady, IsStart, StartsOn, sectors_on, RunsOn, RunsFrontOn}
 use Rattle.rssd_run.proofs.HeadLimits.{head_fits, named_row}
@@ -75,7 +80,7 @@ module _ (head : ImageHead) (meaning : Meaning) (die : DieState) (given : IsGive
 
 -- ---- what is mounted
 
-none_added : (view : DeviceView) → NoCounts view → plus (record { first = 0; second = 0; declined = 0; moved = 0 }) view ≡ view
+pub none_added : (view : DeviceView) → NoCounts view → plus (record { first = 0; second = 0; declined = 0; moved = 0 }) view ≡ view
 none_added view none = λ i. record view {
   first = (ap (λ (n : ℕ). min (0 + n) (2 ^ 64 - 1)) none.first ∙ sym none.first) i;
   second = (ap (λ (n : ℕ). min (0 + n) (2 ^ 64 - 1)) none.second ∙ sym none.second) i;
@@ -83,7 +88,7 @@ none_added view none = λ i. record view {
   moved = (ap (λ (n : ℕ). min (0 + n) (2 ^ 64 - 1)) none.moved ∙ sym none.moved) i;
 }
 
-runs : (stopped : Bool) → stopped ≡ false → (rows : List (List ℕ)) → ArrayIs stopped rows (On rows)
+pub runs : (stopped : Bool) → stopped ≡ false → (rows : List (List ℕ)) → ArrayIs stopped rows (On rows)
 runs false e rows = refl
 runs true e rows = cc
 
@@ -104,6 +109,10 @@ starts_named head die session starts =
       shows = subst (λ (h : Holding). ShowsHolding d session.base h (on d none device)) (sym starts.holding)
           (subst (λ (b : Tallies). ShowsHolding d b (Mounted device) (on d none device)) (sym starts.base) (refl, runs device.stopped starts.mounts.running (rows_of d device.view)));
       numbers = subst (HasNumbers d) (sym starts.holding) starts.mounts.numbers;
+      mounted = device.view.die;
+      has = subst (HasDie device.view.die) (sym starts.holding) refl;
+      keeps = keeps_die d die device.view.die starts.mounts.kept.shape (record { cells = starts.mounts.cells.cells; erases = starts.mounts.cells.erases })
+          (went_tells die device.view.die (passed_went {Bounded = ⊥} starts.mounts.calls));
     }
 
 pub starts_on : (head : ImageHead) (meaning : Meaning) (die : DieState) → IsGiven head meaning die → (session : SessionValue)
@@ -142,16 +151,26 @@ shown_die d base (Mounted device) view die shows has = ap (λ (v : DeviceView). 
 shown_die d base (Closed numbers other) view die shows has = shows.0 ∙ has
 shown_die d base Nothing view die shows has = absurd shows
 
+one_die : (holding : Holding) (a b : DieState) → HasDie a holding → HasDie b holding → a ≡ b
+one_die (Mounted device) a b first second = sym first ∙ second
+one_die (Closed numbers other) a b first second = sym first ∙ second
+one_die Nothing a b first second = absurd first
+
 pub named_shape : (head : ImageHead) → geometry_shape (numbers_named head).geometry ≡ shape_of head
 named_shape head =
     let row : HasRow head.scheme (meaning_named head.scheme) = named_row head.scheme in
     λ i. record (shape_of head) { spare_bytes = 16 * row.generations i }
 
-module _ (head : ImageHead) (die : DieState) (lines : List Line) (written written_after : Option (List ℕ)) (ready : IsReady head die) (old new : SessionValue) (starts : StartsOn head die old) where
-  pub runs_on : (last : DieState) → last.shape ≡ geometry_shape (numbers_named head).geometry → HasDie last new.holding
-      → RunsSession (numbers_named head) lines old new written written_after → RunsOn head die lines written written_after last
-  runs_on last shape has session_runs = record {
+module _ (head : ImageHead) (die : DieState) (lines : List Line) (log log_after : List Act) (ready : IsReady head die) (old new : SessionValue) (starts : StartsOn head die old) where
+  pub runs_on : (last : DieState) → last.shape ≡ geometry_shape (numbers_named head).geometry → HasDie last new.holding → KeepsSession (numbers_named head) old new → Grows log log_after
+      → RunsSession (numbers_named head) lines old new log log_after → RunsOn head die lines log log_after last
+  runs_on last shape has keeps grew session_runs = record {
     shape = shape ∙ named_shape head;
+    grew = grew;
+    keeps = (
+        let after = keeps starts.mounted starts.has in
+        subst (λ (x : DieState). KeepsDie (numbers_named head) die x) (one_die new.holding after.0 last after.1 has)
+        (keeps_more (numbers_named head) die starts.mounted after.0 starts.keeps after.2));
     before = starts.view;
     start = starts.start;
     run = λ calm.
@@ -159,7 +178,7 @@ module _ (head : ImageHead) (die : DieState) (lines : List Line) (written writte
         record { after = to.0; die = shown_die (numbers_named head) new.base new.holding to.0 last to.1 has; run = to.2 };
   }
 
-  pub runs_front_on : CutsOffSession (numbers_named head) lines old new written written_after → RunsFrontOn head die lines written written_after
+  pub runs_front_on : CutsOffSession (numbers_named head) lines old new log log_after → RunsFrontOn head die lines log log_after
   runs_front_on cut_off = record {
     before = starts.view;
     start = starts.start;

@@ -1,9 +1,11 @@
 -- What the fields of a session make of it.
-use Rattle.std.proofs.Common.{◌≡◌, ℕ, true, false, Option, None, Some, refl, sym, ap, ◌∙◌, subst}
+use Rattle.std.proofs.Common.{◌≡◌, ℕ, ◌<◌, ◌^◌, arith, true, false, Option, None, Some, refl, sym, ap, ◌∙◌, subst}
 use Rattle.std.specs.Prelude.{IfSome, IfNone}
 use Rattle.std.specs.Option.{option_map}
 use Rattle.cell_die.specs.Counts.{count_sum, sum_of}
+use Rattle.cell_die.specs.declared.shape.Shape.{Shape}
 use Rattle.cell_die.specs.DieState.{DieState}
+use Rattle.page_codec.specs.Geometry.{shape_of}
 use Rattle.striped.specs.Meaning.{Meaning}
 use Rattle.rssd_script.specs.declared.lines.Line.{Line}
 use Rattle.rssd_script.specs.declared.lines.Line.TheVariants.{Write, Read, Trim, Idle, Cut, FailRead, Mount, Stat}
@@ -13,12 +15,12 @@ use Rattle.rssd_core.specs.declared.device.Counts.{Counts}
 use Rattle.rssd_core.specs.declared.device.Plan.{Plan}
 use Rattle.rssd_core.specs.declared.device.MountError.{MountError}
 use Rattle.rssd_core.specs.DeviceValue.{Numbers, DeviceView, DeviceValue}
-use Rattle.rssd_core.specs.Mount.{numbers_of}
+use Rattle.rssd_core.specs.Mount.{numbers_of, Fits}
 use Rattle.rssd_run.specs.View.{View}
 use Rattle.rssd_run.specs.Held.{Tallies, tallies_of, added_tallies}
 use Rattle.rssd_run.specs.Step.{AlwaysAnswered}
-use Rattle.rssd_run.specs.Steps.{Steps, MountDone, MountRefused, refusal_reply}
-use Rattle.rssd_run.specs.Shows.{Holding, Mounted, Closed, HasNumbers, AreSmall, Parts, SessionValue, ShowsHolding, StepsSession, IsHeld, IsSession, IsDeviceLine, holding_of, session_of, tallies, stat_of, SaysStat}
+use Rattle.rssd_run.specs.Steps.{Steps, IsKept, MountDone, MountRefused, refusal_reply}
+use Rattle.rssd_run.specs.Shows.{HasDie, Holding, Mounted, Closed, HasNumbers, AreSmall, Parts, SessionValue, ShowsHolding, StepsSession, IsPlanned, IsHeld, IsSession, IsDeviceLine, holding_of, session_of, tallies, stat_of, SaysStat}
 use Rattle.rssd_run.proofs.Sessions.{running_steps, stopped_down, closed_down, off_steps, stat_steps, IsClosed, mounted_steps, refused_steps}
 
 -- a line that a device answers is none that is always answered
@@ -132,6 +134,7 @@ module _ {D C F : Type 0} (state : D → DieState) (meaning : C → Meaning) (de
       record {
         die_is = λ view shows. ap (λ (v : DeviceView). v.die) (shown view shows).0 ∙ sym facts.0;
         tallies_are = λ view shows. ap tallies_of (shown view shows).0 ∙ sym counts;
+        holds = λ other has. sym (subst (HasDie other) (mounted_holding p ftl some) has) ∙ sym facts.0;
       }
   gave_closed d p pair base gave None none =
       let facts = rw none at gave.die in
@@ -141,6 +144,7 @@ module _ {D C F : Type 0} (state : D → DieState) (meaning : C → Meaning) (de
       record {
         die_is = λ view shows. (shown view shows).0;
         tallies_are = λ view shows. (shown view shows).1 ∙ ap tallies (sym facts.1);
+        holds = λ other has. sym (subst (HasDie other) (closed_holding p pair none facts.0) has);
       }
 
   gave_numbers : (d : Numbers) (p : Parts D C F) (pair : D × C) (base : Counts) → Gave p pair base → IsHeld p.plan (session_of state meaning device p).holding
@@ -152,6 +156,47 @@ module _ {D C F : Type 0} (state : D → DieState) (meaning : C → Meaning) (de
   gave_numbers d p pair base gave is_held numbers None none =
       let facts = rw none at gave.die in
       subst (HasNumbers d) (closed_holding p pair none facts.0) numbers
+
+  -- the die that was given fits the plan
+  gave_fits : (p : Parts D C F) (pair : D × C) (base : Counts) → Gave p pair base → IsHeld p.plan (session_of state meaning device p).holding → (m : Option F) → p.mounted ≡ m
+      → Fits (state pair.0).shape (meaning pair.1) p.plan
+  gave_fits p pair base gave is_held (Some ftl) some =
+      let facts = rw some at gave.device_is in
+      let was : IsHeld p.plan (Mounted (device ftl)) = subst (IsHeld p.plan) (mounted_holding p ftl some) is_held in
+      let shape : (state pair.0).shape ≡ shape_of (device ftl).numbers.geometry = ap (λ (die : DieState). die.shape) facts.0 ∙ was.1.shape in
+      subst (λ (s : Shape). Fits s (meaning pair.1) p.plan) (sym shape)
+      (subst (λ (m : Meaning). Fits (shape_of (device ftl).numbers.geometry) m p.plan) (sym facts.1) was.0.fits)
+  gave_fits p pair base gave is_held None none =
+      let facts = rw none at gave.die in
+      let was : IsHeld p.plan (Closed (numbers_of (state pair.0).shape (meaning pair.1) p.plan) (state pair.0)) = subst (IsHeld p.plan) (closed_holding p pair none facts.0) is_held in
+      subst (λ (s : Shape). Fits s (meaning pair.1) p.plan) (sym was.1) was.0.fits
+
+  small_sum : (a b : ℕ) → count_sum a b < 2 ^ 64
+  small_sum a b = omega arith
+
+  -- the counts that were given are numbers of 64 bits
+  pub gave_small : (p : Parts D C F) (pair : D × C) (base : Counts) → Gave p pair base → AreSmall (tallies p.base) → (m : Option F) → p.mounted ≡ m → AreSmall (tallies base)
+  gave_small p pair base gave small (Some ftl) some =
+      let counts = rw some at gave.counts in
+      subst AreSmall (sym counts) (record {
+        first = small_sum p.base.first (device ftl).view.first;
+        second = small_sum p.base.second (device ftl).view.second;
+        declined = small_sum p.base.declined (device ftl).view.declined;
+        moved = small_sum p.base.moved (device ftl).view.moved;
+      })
+  gave_small p pair base gave small None none = let facts = rw none at gave.die in subst (λ (counts : Counts). AreSmall (tallies counts)) (sym facts.1) small
+
+  -- the device that was mounted again is held
+  pub held_again : (p : Parts D C F) (pair : D × C) (base : Counts) → Gave p pair base → IsHeld p.plan (session_of state meaning device p).holding → (new : F)
+      → MountDone (numbers_of (state pair.0).shape (meaning pair.1) p.plan) (state pair.0) (device new) → IsHeld p.plan (Mounted (device new))
+  held_again p pair base gave is_held new done =
+      let d : Numbers = numbers_of (state pair.0).shape (meaning pair.1) p.plan in
+      let shape : (state pair.0).shape ≡ shape_of d.geometry = sym done.keeps.shape ∙ done.kept.shape in
+      let fits = gave_fits p pair base gave is_held p.mounted refl in
+      let is : IsPlanned d p.plan = record { fits = subst (λ (s : Shape). Fits s (meaning pair.1) p.plan) shape fits; numbers = refl } in (
+        subst (λ (n : Numbers). IsPlanned n p.plan) (sym done.kept.numbers) is,
+        subst (λ (n : Numbers). IsKept n (device new)) (sym done.kept.numbers) done.kept,
+      )
 
   module _ (old p : Parts D C F) (is : p ≡ old) (d : Numbers) (numbers : HasNumbers d (session_of state meaning device old).holding) (pair : D × C) (base : Counts) (gave : Gave p pair base)
       (session : IsSession p.plan (session_of state meaning device p)) where

@@ -1,5 +1,5 @@
 -- The limits of a head, for each scheme of the table, as those of its die and of its device.
-use Rattle.std.proofs.Common.{◌≡◌, ℕ, ◌+◌, ◌-◌, ◌*◌, ◌≤◌, true, refl, sym, ap, arith, lit≤, Bool}
+use Rattle.std.proofs.Common.{◌≡◌, ◌⊎◌, inl, inr, ℕ, ◌+◌, ◌-◌, ◌*◌, ◌≤◌, true, refl, sym, ap, arith, lit≤, Bool}
 use Rattle.std.specs.Prelude.{nat_le, ◌&&◌}
 use Rattle.std.proofs.lemmas.Bool.{leb-true, and_parts}
 use Rattle.mem_die.specs.Limits.{IsWithinLimits as FitsDie}
@@ -135,3 +135,16 @@ head_fits head within =
       few_sectors = omega (arith, l.sectors);
       reuse = l.reuse;
     }
+
+-- a sector has 16 or 512 bytes
+pub sector_bytes_named : (name : SchemeName) → ((row_of name).sector_bytes ≡ 16) ⊎ ((row_of name).sector_bytes ≡ 512)
+unfolding row_of
+sector_bytes_named Plain16 = inl refl
+sector_bytes_named Rs16 = inl refl
+sector_bytes_named Rs512 = inr refl
+sector_bytes_named Coset16 = inl refl
+sector_bytes_named Coset512 = inr refl
+sector_bytes_named Flip16 = inl refl
+sector_bytes_named Flip512 = inr refl
+sector_bytes_named Ham16 = inl refl
+sector_bytes_named Ham512 = inr refl

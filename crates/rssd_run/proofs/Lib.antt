@@ -10,6 +10,7 @@ pub mod Stepped
 pub mod Refused
 pub mod Sessions
 pub mod PlayedSteps
+pub mod AnsweredKept
 pub mod Answered
 pub mod Fields
 pub mod Runs
@@ -23,8 +24,14 @@ pub mod DieStart
 pub mod BlankStart
 pub mod Calm
 pub mod Headline
+pub mod SavedErases
 pub mod Spending
 pub mod ImageRuns
 pub mod LeftCells
 pub mod Completeness
 pub mod Rows
+pub mod CalmLines
+pub mod WorkloadLines
+pub mod HeldRows
+pub mod MadeRuns
+pub mod CallStops

@@ -23,7 +23,7 @@ use Rattle.rssd_run.specs.Held.{Tallies, plus, on, tallies_of, after_refusal, re
 use Rattle.rssd_run.specs.Step.{IsStep, RefusedExactly, OutOfRange, TooLong, NumbersSpent, AlwaysAnswered}
 use Rattle.rssd_run.proofs.Came.{power_tells, went_power, went_lowers, none_came, AReadCame, read_came, read_rose, passed_went}
 use Rattle.rssd_run.proofs.Parts.{no_fault}
-use Rattle.rssd_run.proofs.Still.{keeps_cells, same_book, same_seq, lowers_none, lowers_powered, power_given, cut_powered, form_powered, read_powered}
+use Rattle.rssd_run.proofs.Still.{keeps_cells, keeps_die, same_book, same_seq, lowers_none, lowers_powered, power_given, cut_powered, form_powered, read_powered}
 use Rattle.rssd_run.proofs.WriteSteps.{event_of}
 
 pub mount_row : (size : ℕ) (array : ArrayState) (rows : List (List ℕ)) → IsArrayOf rows array → Row size array Mount Done (On rows)
@@ -73,6 +73,7 @@ mount_step d before new stands small tells m =
     let powered : DieState = told with_power before.device.die in
     let same : SameCells before.device.die die = record { cells = m.cells.cells; erases = m.cells.erases } in
     let went : Went 0 (page_count d.geometry) ⊥ powered die = passed_went m.calls in
+    let power : TellsPower die = went_power powered die (power_given before.device.die tells) went in
     let lowers : Lowers 0 (page_count d.geometry) ⊥ before.device.die die = lowers_powered before.device.die die (went_lowers powered die (power_given before.device.die tells) went) in
     let none : NoFailure e = none_came before.device.die die lowers in
     let rows : rows_of d before.device ≡ rows_of d after.device = rw same.cells refl in
@@ -83,7 +84,7 @@ mount_step d before new stands small tells m =
       stands_before = stands;
       stands_after = refl;
       off = λ h. cc;
-      keeps = keeps_cells d before.device after.device m.kept.shape same;
+      keeps = keeps_cells d before.device after.device m.kept.shape same (λ t. power_tells die power);
       placed = λ s b t. absurd (let l = t.write in cc);
       fault = no_fault e (λ h. cc) none;
       answers = record {
@@ -97,6 +98,8 @@ mount_step d before new stands small tells m =
       true_book = λ on. m.true_book m.running;
       moves = (mounted_plus d (tallies_of before.device) new.view m.mounted, omega (arith, small, m.counts.moved));
       armed = record { arms = tt; lowers = λ a f. lowers; fault = λ h. cc };
+      power = λ on t. power;
+      leaves = same.erases;
     }
 
 read_came_powered : {changes reads : ℕ} (die new : DieState) → AReadCame changes reads (told with_power die) new → AReadCame changes reads die new
@@ -127,7 +130,7 @@ mount_fault_step d before die stands small_first small_second small_declined sma
       stands_before = stands;
       stands_after = refused_stands before.array (rows_of d after.device) still;
       off = λ h c. absurd c;
-      keeps = keeps_cells d before.device after.device shape same;
+      keeps = keeps_cells d before.device after.device shape same (λ t. power_tells die came.power);
       placed = λ s b t. absurd (let l = t.write in cc);
       fault = record {
         came = (λ h. inr came.came, λ h. refl);
@@ -161,6 +164,8 @@ mount_fault_step d before die stands small_first small_second small_declined sma
           read_came = λ read. (came.within, came.cut, came.form);
         };
       };
+      power = λ on. absurd (refused_off before.array on);
+      leaves = same.erases;
     }
 
 pub no_spare_step : (d : Numbers) (before : View) (die : DieState) → StandsFor d before → before.device.first < 2 ^ 64 → before.device.second < 2 ^ 64 → before.device.declined < 2 ^ 64 → before.device.moved < 2 ^ 64
@@ -180,7 +185,7 @@ no_spare_step d before die stands small_first small_second small_declined small 
       stands_before = stands;
       stands_after = refused_stands before.array (rows_of d after.device) still;
       off = λ h. cc;
-      keeps = keeps_cells d before.device after.device shape same;
+      keeps = keeps_cells d before.device after.device shape same (λ t. power_tells die (went_power powered die (power_given before.device.die tells) went));
       placed = λ s b t. absurd (let l = t.write in cc);
       fault = no_fault e (λ h. cc) none;
       answers = record {
@@ -200,6 +205,8 @@ no_spare_step d before die stands small_first small_second small_declined small 
         tt,
       );
       armed = record { arms = tt; lowers = λ a f. lowers; fault = λ h. cc };
+      power = λ on. absurd (refused_off before.array on);
+      leaves = same.erases;
     }
 
 pub no_memory_step : (d : Numbers) (before : View) → StandsFor d before → before.device.first < 2 ^ 64 → before.device.second < 2 ^ 64 → before.device.declined < 2 ^ 64 → before.device.moved < 2 ^ 64
@@ -216,7 +223,7 @@ no_memory_step d before stands small_first small_second small_declined small =
       stands_before = stands;
       stands_after = refused_stands before.array (rows_of d after.device) stands;
       off = λ h. cc;
-      keeps = keeps_cells d before.device after.device refl same;
+      keeps = keeps_cells d before.device after.device refl same (λ t. power_tells die (power_given before.device.die t));
       placed = λ s b t. absurd (let l = t.write in cc);
       fault = no_fault e (λ h. cc) none;
       answers = record {
@@ -236,6 +243,8 @@ no_memory_step d before stands small_first small_second small_declined small =
         tt,
       );
       armed = record { arms = tt; lowers = λ a f. lowers; fault = λ h. cc };
+      power = λ on. absurd (refused_off before.array on);
+      leaves = refl;
     }
 
 pub mounts_done : (d : Numbers) (die : DieState) (new : DeviceValue) → die.shape ≡ shape_of d.geometry → Mounts d (told with_power die) new → Tells die → MountDone d die new
@@ -244,6 +253,7 @@ mounts_done d die new shape m tells =
     let power : TellsPower new.view.die = went_power powered new.view.die (power_given die tells) (passed_went {Bounded = ⊥} m.calls) in
     record {
       kept = record { numbers = m.numbers; shape = m.kept.shape ∙ shape; tells = power_tells new.view.die power; power = λ r. power; book = m.true_book };
+      keeps = keeps_die d die new.view.die m.kept.shape (record { cells = m.cells.cells; erases = m.cells.erases }) (λ t. power_tells new.view.die power);
       running = m.running;
       step = λ before is_die stands small. mount_step d before new stands small (rw is_die tells) (rw is_die m);
     }
@@ -252,6 +262,7 @@ pub mount_refused : (d : Numbers) (die new : DieState) (why : MountError) → (w
 mount_refused d die new OutOfMemory fits r tells = record {
   tells = rw r (power_tells (told with_power die) (power_given die tells));
   shape = ap (λ state. state.shape) r;
+  keeps = rw r (keeps_die d die (told with_power die) refl (record { cells = refl; erases = refl }) (λ t. power_tells (told with_power die) (power_given die t)));
   step = λ before is_die stands f s e m. rw r (rw (sym is_die) (no_memory_step d before stands f s e m));
 }
 mount_refused d die new BadShape fits r tells = absurd (fits refl)
@@ -262,6 +273,7 @@ mount_refused d die new DieFault fits r tells =
     record {
       tells = power_tells new came.power;
       shape = r.kept.shape;
+      keeps = keeps_die d die new r.kept.shape same (λ t. power_tells new came.power);
       step = λ before is_die stands f s e m. mount_fault_step d before new stands f s e m (rw is_die tells) (rw is_die r.failed) (rw is_die r.kept.shape) (rw is_die same);
     }
 mount_refused d die new NoSpareError fits r tells =
@@ -270,6 +282,7 @@ mount_refused d die new NoSpareError fits r tells =
     record {
       tells = power_tells new (went_power powered new (power_given die tells) (passed_went {Bounded = ⊥} r.calls));
       shape = r.kept.shape;
+      keeps = keeps_die d die new r.kept.shape same (λ t. power_tells new (went_power powered new (power_given die tells) (passed_went {Bounded = ⊥} r.calls)));
       step = λ before is_die stands f s e m. no_spare_step d before new stands f s e m (rw is_die tells) (rw is_die r.calls) (rw is_die r.kept.shape) (rw is_die same) (rw is_die r.full);
     }
 

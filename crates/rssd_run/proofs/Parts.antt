@@ -1,11 +1,14 @@
 -- The parts of a step that many lines share.
-use Rattle.std.proofs.Common.{◌≢◌, inl, ℕ, List, arith, refl}
-use Rattle.cell_die.proofs.Sequences.{never_falls_refl}
+use Rattle.std.proofs.Common.{◌≡◌, ◌≢◌, inl, ℕ, Bool, true, false, List, arith, refl, ap, ◌∙◌, subst}
+use Rattle.cell_die.specs.DieState.{DieState}
+use Rattle.cell_die.proofs.Sequences.{never_falls_refl, never_falls_trans}
 use Rattle.rssd_script.specs.declared.replies.Reply.TheVariants.{Range, Long, Off as SaysOff, Fault, Spent}
 use Rattle.rssd_core.specs.BookChanges.{Change}
 use Rattle.rssd_core.specs.DeviceValue.{Numbers, DeviceView, DeviceValue}
-use Rattle.rssd_core.specs.Moves.{MovesBook, MovesSeq}
-use Rattle.rssd_core.specs.Outcomes.{Holds}
+use Rattle.rssd_core.specs.Failures.{Tells}
+use Rattle.rssd_core.specs.Moves.{MovesBook, MovesSeq, WhereCut, CollectAtCut}
+use Rattle.rssd_core.specs.Outcomes.{Holds, WriteFault, TrimFault, WriteFaultMay, TrimFaultMay, RisesSealed, WriteAtCut}
+use Rattle.rssd_core.specs.Writes.{GetsPage, TakesOver, WriteErased, TrimLeaves}
 use Rattle.rssd_run.specs.ArrayWithCuts.{ArrayState, On, Off}
 use Rattle.rssd_run.specs.View.{Event, IsOn, IsOff, NoFailure}
 use Rattle.rssd_run.specs.Held.{Tallies, plus}
@@ -31,11 +34,23 @@ no_fault e reply none = record {
   rose = λ h. absurd (reply h);
 }
 
-pub keeps : (d : Numbers) (base : Tallies) (old new : DeviceValue) → Holds d old new → KeepsDie d (plus base old.view) (plus base new.view)
-keeps d base old new holds = record { shape = holds.kept.shape; never_falls = holds.kept.never_falls; no_pad = holds.no_pad; sound = holds.sound }
+pub keeps : (d : Numbers) (base : Tallies) (old new : DeviceValue) → Holds d old new → (Tells old.view.die → Tells new.view.die) → KeepsDie d old.view.die new.view.die
+keeps d base old new holds tells = record { shape = holds.kept.shape; tells = tells; never_falls = holds.kept.never_falls; no_pad = holds.no_pad; sound = holds.sound }
 
-pub keeps_same : (d : Numbers) (view : DeviceView) → KeepsDie d view view
-keeps_same d view = record { shape = refl; never_falls = never_falls_refl view.die; no_pad = λ h. h; sound = λ h. h }
+pub keeps_none : (d : Numbers) (die : DieState) → KeepsDie d die die
+keeps_none d die = record { shape = refl; tells = λ h. h; never_falls = never_falls_refl die; no_pad = λ h. h; sound = λ h. h }
+
+pub keeps_more : (d : Numbers) (old mid new : DieState) → KeepsDie d old mid → KeepsDie d mid new → KeepsDie d old new
+keeps_more d old mid new first second = record {
+  shape = second.shape ∙ first.shape;
+  tells = λ h. second.tells (first.tells h);
+  never_falls = never_falls_trans old mid new first.shape first.never_falls second.never_falls;
+  no_pad = λ h. second.no_pad (first.no_pad h);
+  sound = λ h. second.sound (first.sound h);
+}
+
+pub keeps_same : (d : Numbers) (view : DeviceView) → KeepsDie d view.die view.die
+keeps_same d view = keeps_none d view.die
 
 -- the book moves so under the session's tallies too, and a rise at a cut is one
 pub plus_book : (d : Numbers) (base : Tallies) (old new : DeviceView) {May : List Change → Type 0} {Rises : List Change → ℕ → Type 0} {AtCut Then : ℕ → Type 0}
@@ -52,3 +67,30 @@ plus_book d base old new then book = record {
 
 pub plus_seq : (d : Numbers) (base : Tallies) (old new : DeviceView) → MovesSeq d old new → MovesSeq d (plus base old) (plus base new)
 plus_seq d base old new seq = record { not_less = seq.not_less; few = seq.few; headers = seq.headers }
+
+-- ---- what is drawn and erased, under the session's tallies
+
+pub gets_plus : (base : Tallies) (old new : DeviceView) → GetsPage old new → GetsPage (plus base old) (plus base new)
+gets_plus base old new g = record { drawn = g.drawn; erased = g.erased }
+
+pub over_draws_plus : (base : Tallies) (old new : DeviceView) → TakesOver old new → TakesOver (plus base old) (plus base new)
+over_draws_plus base old new t = record { drawn = t.drawn; erases = t.erases }
+
+pub erased_plus : (d : Numbers) (base : Tallies) (old new : DeviceView) (row : List ℕ) → WriteErased d old row new → WriteErased d (plus base old) row (plus base new)
+erased_plus d base old new row w = record { over = w.over; clean = w.clean }
+
+pub trim_plus_leaves : (d : Numbers) (base : Tallies) (old new : DeviceView) (sector : ℕ) (held : Bool) → TrimLeaves d old new sector held → TrimLeaves d (plus base old) (plus base new) sector held
+trim_plus_leaves d base old new sector true t = (t.0, gets_plus base old new t.1)
+trim_plus_leaves d base old new sector false t = ap (plus base) t
+
+-- ---- the book after a fault, by whether the device is stopped
+
+pub write_book_so : (d : Numbers) (old new : DeviceValue) (sector : ℕ) (row : List ℕ) (stopped : Bool) → new.stopped ≡ stopped → WriteFault d sector row old new
+    → MovesBook d (WriteFaultMay stopped) (RisesSealed old.view.book) (WhereCut (WriteAtCut d old.view row) old.view new.view) old.view new.view
+write_book_so d old new sector row stopped is w =
+    subst (λ (t : Bool). MovesBook d (WriteFaultMay t) (RisesSealed old.view.book) (WhereCut (WriteAtCut d old.view row) old.view new.view) old.view new.view) is w.book
+
+pub trim_book_so : (d : Numbers) (old new : DeviceValue) (sector : ℕ) (stopped : Bool) → new.stopped ≡ stopped → TrimFault d sector old new
+    → MovesBook d (TrimFaultMay stopped) (RisesSealed old.view.book) (WhereCut (CollectAtCut old.view.book) old.view new.view) old.view new.view
+trim_book_so d old new sector stopped is w =
+    subst (λ (t : Bool). MovesBook d (TrimFaultMay t) (RisesSealed old.view.book) (WhereCut (CollectAtCut old.view.book) old.view new.view) old.view new.view) is w.book

@@ -1,5 +1,5 @@
 -- What a line on a device leaves is a played step, on a die that need not tell its power.
-use Rattle.std.proofs.Common.{◌≡◌, inl, inr, ℕ, List, false, refl, arith, sym, ap, ◌∙◌}
+use Rattle.std.proofs.Common.{◌≡◌, inl, inr, ℕ, List, true, false, refl, arith, sym, ap, ◌∙◌}
 use Rattle.std.proofs.lemmas.Option.{none-some}
 use Rattle.cell_die.specs.Counts.{count_sum}
 use Rattle.cell_die.specs.Changes.{SameCells}
@@ -14,7 +14,7 @@ use Rattle.rssd_core.specs.BookChanges.{Change}
 use Rattle.rssd_core.specs.DeviceValue.{Numbers, DeviceView, DeviceValue, rows_of}
 use Rattle.rssd_core.specs.Moves.{MovesBook}
 use Rattle.rssd_core.specs.Outcomes.{ReadFault, ChangeFault}
-use Rattle.rssd_core.specs.Within.{WithinWrite, WithinTrim, WithinIdle}
+use Rattle.rssd_core.specs.Within.{WithinWrite, WithinTrim, WithinIdle, holds_bytes, record_of}
 use Rattle.rssd_run.specs.ArrayWithCuts.{On, Off}
 use Rattle.rssd_run.specs.View.{View, Event}
 use Rattle.rssd_run.specs.Held.{Tallies, plus, on, off}
@@ -23,10 +23,10 @@ use Rattle.rssd_run.specs.Placing.{IsTried, PlacedExactly}
 use Rattle.rssd_run.specs.Step.{IsStep}
 use Rattle.rssd_run.specs.Played.{IsPlayed, WroteSo, WriteFailed, ReadSo, ReadWithFault, TrimmedSo, TrimFailed, PlacedSo, PlayedBook, IsPlayedStep}
 use Rattle.rssd_core.specs.Outcomes.{Holds, Idled, IdleFault}
-use Rattle.rssd_run.proofs.Came.{change_rose, read_rose}
-use Rattle.rssd_run.proofs.Parts.{not_refused, keeps, plus_book, plus_seq}
+use Rattle.rssd_run.proofs.Came.{change_rose, read_rose, passed_went, went_tells, change_failed_tells, read_failed_tells}
+use Rattle.rssd_run.proofs.Parts.{not_refused, keeps, plus_book, plus_seq, gets_plus, over_draws_plus, erased_plus, trim_plus_leaves, write_book_so, trim_book_so}
 use Rattle.rssd_run.proofs.Still.{keeps_cells, same_book, same_seq}
-use Rattle.rssd_run.proofs.CommandSteps.{moves_plus, unfinished_plus}
+use Rattle.rssd_run.proofs.CommandSteps.{moves_plus, unfinished_plus, bounded}
 use Rattle.rssd_run.proofs.WriteSteps.{event_of, sector_in, bytes_in, must_not, offered_both, over_plus, neither}
 
 -- ---- a step whose die tells its power is a played step too
@@ -34,7 +34,7 @@ use Rattle.rssd_run.proofs.WriteSteps.{event_of, sector_in, bytes_in, must_not, 
 loose_book : (d : Numbers) (old new : DeviceView) {May : List Change → Type 0} {Rises : List Change → ℕ → Type 0} {AtCut : ℕ → Type 0} → MovesBook d May Rises AtCut old new → MovesBook d May Rises (λ rise. Unit {0}) old new
 loose_book d old new book = record { changes = book.changes; leads = book.leads; may = book.may; rise = book.rise; rises = book.rises; tally = book.tally; at_cut = tt }
 
-played_book : (d : Numbers) (before after : View) (line : Line) (reply : Reply) → IsPlayed line → BookMoves d (event_of line reply before after) line reply → PlayedBook d (event_of line reply before after)
+pub played_book : (d : Numbers) (before after : View) (line : Line) (reply : Reply) → IsPlayed line → BookMoves d (event_of line reply before after) line reply → PlayedBook d (event_of line reply before after)
 played_book d before after (Write sector bytes) reply is m = record { book = loose_book d before.device after.device m.0.book; seq = m.0.seq; records = m.1 }
 played_book d before after (Read sector) reply is m = record { book = loose_book d before.device after.device m.0.book; seq = m.0.seq; records = m.1 }
 played_book d before after (Trim sector) reply is m = record { book = loose_book d before.device after.device m.0.book; seq = m.0.seq; records = m.1 }
@@ -67,6 +67,7 @@ step_played d before after line reply is s = record {
   tallies = s.answers.tallies;
   true_book = s.true_book;
   moves = played_book d before after line reply is s.moves;
+  leaves = s.leaves;
 }
 
 -- ---- writes
@@ -104,7 +105,7 @@ played_first d base old new sector bytes a =
       stands_before = refl;
       stands_after = refl;
       off = λ h. cc;
-      keeps = keeps d base old new a.holds;
+      keeps = keeps d base old new a.holds (went_tells old.view.die new.view.die a.wrote.calls);
       placed = of_line d e sector bytes refl placed;
       cause = λ h. cc;
       refused = not_refused d e tt (λ h. omega (arith, a.in_range)) (λ h. omega (arith, a.fits)) (λ h. omega (arith, a.wrote.fresh)) (λ h. cc) (λ h. cc) (λ h. cc) (λ h. cc);
@@ -113,6 +114,7 @@ played_first d base old new sector bytes a =
       tallies = record { first = omega (arith, a.wrote.counts.first); second = omega (arith, a.wrote.counts.second); declined = omega (arith, a.wrote.counts.declined) };
       true_book = λ h. a.holds.true_book a.wrote.running;
       moves = record { book = plus_book d base old.view new.view (λ rise at. tt) a.wrote.book; seq = plus_seq d base old.view new.view a.wrote.seq; records = tt };
+      leaves = gets_plus base old.view new.view a.wrote.draws;
     }
 
 pub played_second : (d : Numbers) (base : Tallies) (old new : DeviceValue) (sector : ℕ) (bytes : List ℕ) → WroteSo d sector bytes PutSecond old new
@@ -131,7 +133,7 @@ played_second d base old new sector bytes a =
       stands_before = refl;
       stands_after = refl;
       off = λ h. cc;
-      keeps = keeps d base old new a.holds;
+      keeps = keeps d base old new a.holds (went_tells old.view.die new.view.die a.wrote.calls);
       placed = of_line d e sector bytes refl placed;
       cause = λ h. cc;
       refused = not_refused d e tt (λ h. omega (arith, a.in_range)) (λ h. omega (arith, a.fits)) (λ h. omega (arith, a.wrote.fresh)) (λ h. cc) (λ h. cc) (λ h. cc) (λ h. cc);
@@ -140,6 +142,7 @@ played_second d base old new sector bytes a =
       tallies = record { first = omega (arith, a.wrote.counts.first); second = omega (arith, a.wrote.counts.second); declined = omega (arith, a.wrote.counts.declined) };
       true_book = λ h. a.holds.true_book a.wrote.running;
       moves = record { book = plus_book d base old.view new.view (λ rise at. tt) a.wrote.book; seq = plus_seq d base old.view new.view a.wrote.seq; records = tt };
+      leaves = over_draws_plus base old.view new.view a.wrote.draws;
     }
 
 pub played_declined : (d : Numbers) (base : Tallies) (old new : DeviceValue) (sector : ℕ) (bytes : List ℕ) → WroteSo d sector bytes PutDeclined old new
@@ -158,7 +161,7 @@ played_declined d base old new sector bytes a =
       stands_before = refl;
       stands_after = refl;
       off = λ h. cc;
-      keeps = keeps d base old new a.holds;
+      keeps = keeps d base old new a.holds (went_tells old.view.die new.view.die a.wrote.calls);
       placed = of_line d e sector bytes refl placed;
       cause = λ h. cc;
       refused = not_refused d e tt (λ h. omega (arith, a.in_range)) (λ h. omega (arith, a.fits)) (λ h. omega (arith, a.wrote.fresh)) (λ h. cc) (λ h. cc) (λ h. cc) (λ h. cc);
@@ -167,6 +170,7 @@ played_declined d base old new sector bytes a =
       tallies = record { first = omega (arith, a.wrote.counts.first); second = omega (arith, a.wrote.counts.second); declined = omega (arith, a.wrote.counts.declined) };
       true_book = λ h. a.holds.true_book a.wrote.running;
       moves = record { book = plus_book d base old.view new.view (λ rise at. tt) a.wrote.book; seq = plus_seq d base old.view new.view a.wrote.seq; records = tt };
+      leaves = gets_plus base old.view new.view a.wrote.draws;
     }
 
 pub played_write_read_fault : (d : Numbers) (base : Tallies) (old new : DeviceValue) (sector : ℕ) (bytes : List ℕ) → WriteFailed d sector bytes old new → ReadFault d (WithinWrite d old.view (filled_up d.geometry.sector_bytes bytes)) old new
@@ -178,7 +182,7 @@ played_write_read_fault d base old new sector bytes a f =
       stands_before = refl;
       stands_after = refl;
       off = λ h c. record { only = λ off. absurd off; always = λ on more. omega (arith, f.failed.change_faults, more) };
-      keeps = keeps d base old new a.holds;
+      keeps = keeps d base old new a.holds (read_failed_tells old.view.die new.view.die f.failed);
       placed = of_line d e sector bytes refl (not_placed d e sector (filled_up d.geometry.sector_bytes bytes) refl);
       cause = λ h. read_rose old.view.die new.view.die f.failed;
       refused = not_refused d e tt (λ h. omega (arith, a.in_range)) (λ h. omega (arith, a.fits)) (λ h. omega (arith, a.fault.fresh)) (λ h. cc) (λ h. cc) (λ h. cc) (λ h. cc);
@@ -186,7 +190,8 @@ played_write_read_fault d base old new sector bytes a f =
       stays = must_not;
       tallies = record { first = omega (arith, a.fault.counts.first); second = omega (arith, a.fault.counts.second); declined = omega (arith, a.fault.counts.declined) };
       true_book = λ h. a.holds.true_book f.running;
-      moves = record { book = plus_book d base old.view new.view (λ rise at. tt) a.fault.book; seq = plus_seq d base old.view new.view a.fault.seq; records = tt };
+      moves = record { book = plus_book d base old.view new.view (λ rise at. tt) (write_book_so d old new sector (filled_up d.geometry.sector_bytes bytes) false f.running a.fault); seq = plus_seq d base old.view new.view a.fault.seq; records = tt };
+      leaves = erased_plus d base old.view new.view (filled_up d.geometry.sector_bytes bytes) a.fault.erased;
     }
 
 pub played_write_change_fault : (d : Numbers) (base : Tallies) (old new : DeviceValue) (sector : ℕ) (bytes : List ℕ) → WriteFailed d sector bytes old new → IsSound d.geometry old.view.die.cells → ChangeFault d (WithinWrite d old.view (filled_up d.geometry.sector_bytes bytes)) (written d.geometry.sector_bytes (rows_of d old.view) sector bytes) old new
@@ -198,7 +203,7 @@ played_write_change_fault d base old new sector bytes a sound f =
       stands_before = refl;
       stands_after = f.rows sound;
       off = λ h c. record { only = λ off. f.failed.change_faults; always = λ on. absurd on };
-      keeps = keeps d base old new a.holds;
+      keeps = keeps d base old new a.holds (change_failed_tells old.view.die new.view.die f.failed);
       placed = of_line d e sector bytes refl (not_placed d e sector (filled_up d.geometry.sector_bytes bytes) refl);
       cause = λ h. change_rose old.view.die new.view.die f.failed;
       refused = not_refused d e tt (λ h. omega (arith, a.in_range)) (λ h. omega (arith, a.fits)) (λ h. omega (arith, a.fault.fresh)) (λ h. cc) (λ h. cc) (λ h. cc) (λ h. cc);
@@ -206,7 +211,8 @@ played_write_change_fault d base old new sector bytes a sound f =
       stays = must_not;
       tallies = record { first = omega (arith, a.fault.counts.first); second = omega (arith, a.fault.counts.second); declined = omega (arith, a.fault.counts.declined) };
       true_book = λ on. absurd on;
-      moves = record { book = plus_book d base old.view new.view (λ rise at. tt) a.fault.book; seq = plus_seq d base old.view new.view a.fault.seq; records = tt };
+      moves = record { book = plus_book d base old.view new.view (λ rise at. tt) (write_book_so d old new sector (filled_up d.geometry.sector_bytes bytes) true f.stopped a.fault); seq = plus_seq d base old.view new.view a.fault.seq; records = tt };
+      leaves = erased_plus d base old.view new.view (filled_up d.geometry.sector_bytes bytes) a.fault.erased;
     }
 
 -- ---- trims
@@ -220,7 +226,7 @@ played_trim d base old new sector a =
       stands_before = refl;
       stands_after = refl;
       off = λ h. cc;
-      keeps = keeps d base old new a.holds;
+      keeps = keeps d base old new a.holds (went_tells old.view.die new.view.die a.trimmed.calls);
       placed = λ s b t. absurd (let l = t.write in cc);
       cause = λ h. cc;
       refused = not_refused d e tt (λ h. omega (arith, a.in_range)) (λ h. h) (λ h. omega (arith, a.trimmed.fresh, h)) (λ h. cc) (λ h. cc) (λ h. cc) (λ h. cc);
@@ -229,6 +235,7 @@ played_trim d base old new sector a =
       tallies = record { first = omega (arith, a.trimmed.counts.first); second = omega (arith, a.trimmed.counts.second); declined = omega (arith, a.trimmed.counts.declined) };
       true_book = λ h. a.holds.true_book a.trimmed.running;
       moves = record { book = plus_book d base old.view new.view (λ rise at. tt) a.trimmed.book; seq = plus_seq d base old.view new.view a.trimmed.seq; records = tt };
+      leaves = trim_plus_leaves d base old.view new.view sector (holds_bytes (record_of d old.view sector)) a.trimmed.leaves;
     }
 
 pub played_trim_read_fault : (d : Numbers) (base : Tallies) (old new : DeviceValue) (sector : ℕ) → TrimFailed d sector old new → ReadFault d (WithinTrim d old.view sector) old new
@@ -240,7 +247,7 @@ played_trim_read_fault d base old new sector a f =
       stands_before = refl;
       stands_after = refl;
       off = λ h c. record { only = λ off. absurd off; always = λ on more. omega (arith, f.failed.change_faults, more) };
-      keeps = keeps d base old new a.holds;
+      keeps = keeps d base old new a.holds (read_failed_tells old.view.die new.view.die f.failed);
       placed = λ s b t. absurd (let l = t.write in cc);
       cause = λ h. read_rose old.view.die new.view.die f.failed;
       refused = not_refused d e tt (λ h. omega (arith, a.in_range)) (λ h. h) (λ h. omega (arith, a.fault.fresh, h)) (λ h. cc) (λ h. cc) (λ h. cc) (λ h. cc);
@@ -248,7 +255,8 @@ played_trim_read_fault d base old new sector a f =
       stays = must_not;
       tallies = record { first = omega (arith, a.fault.counts.first); second = omega (arith, a.fault.counts.second); declined = omega (arith, a.fault.counts.declined) };
       true_book = λ h. a.holds.true_book f.running;
-      moves = record { book = plus_book d base old.view new.view (λ rise at. tt) a.fault.book; seq = plus_seq d base old.view new.view a.fault.seq; records = tt };
+      moves = record { book = plus_book d base old.view new.view (λ rise at. tt) (trim_book_so d old new sector false f.running a.fault); seq = plus_seq d base old.view new.view a.fault.seq; records = tt };
+      leaves = a.fault.erased;
     }
 
 pub played_trim_change_fault : (d : Numbers) (base : Tallies) (old new : DeviceValue) (sector : ℕ) → TrimFailed d sector old new → IsSound d.geometry old.view.die.cells → ChangeFault d (WithinTrim d old.view sector) (trimmed d.geometry.sector_bytes (rows_of d old.view) sector) old new
@@ -260,7 +268,7 @@ played_trim_change_fault d base old new sector a sound f =
       stands_before = refl;
       stands_after = f.rows sound;
       off = λ h c. record { only = λ off. f.failed.change_faults; always = λ on. absurd on };
-      keeps = keeps d base old new a.holds;
+      keeps = keeps d base old new a.holds (change_failed_tells old.view.die new.view.die f.failed);
       placed = λ s b t. absurd (let l = t.write in cc);
       cause = λ h. change_rose old.view.die new.view.die f.failed;
       refused = not_refused d e tt (λ h. omega (arith, a.in_range)) (λ h. h) (λ h. omega (arith, a.fault.fresh, h)) (λ h. cc) (λ h. cc) (λ h. cc) (λ h. cc);
@@ -268,7 +276,8 @@ played_trim_change_fault d base old new sector a sound f =
       stays = must_not;
       tallies = record { first = omega (arith, a.fault.counts.first); second = omega (arith, a.fault.counts.second); declined = omega (arith, a.fault.counts.declined) };
       true_book = λ on. absurd on;
-      moves = record { book = plus_book d base old.view new.view (λ rise at. tt) a.fault.book; seq = plus_seq d base old.view new.view a.fault.seq; records = tt };
+      moves = record { book = plus_book d base old.view new.view (λ rise at. tt) (trim_book_so d old new sector true f.stopped a.fault); seq = plus_seq d base old.view new.view a.fault.seq; records = tt };
+      leaves = a.fault.erased;
     }
 
 -- ---- idle calls
@@ -282,7 +291,7 @@ played_idle d base old new n k holds w =
       stands_before = refl;
       stands_after = refl;
       off = λ h. cc;
-      keeps = keeps d base old new holds;
+      keeps = keeps d base old new holds (went_tells old.view.die new.view.die (bounded w.calls));
       placed = λ s b t. absurd (let l = t.write in cc);
       cause = λ h. cc;
       refused = not_refused d e tt (λ h. h) (λ h. h) (λ h. h) (λ h. cc) (λ h. cc) (λ h. cc) (λ h. cc);
@@ -291,6 +300,7 @@ played_idle d base old new n k holds w =
       tallies = record { first = omega (arith, w.counts.first); second = omega (arith, w.counts.second); declined = omega (arith, w.counts.declined) };
       true_book = λ h. holds.true_book w.running;
       moves = record { book = plus_book d base old.view new.view (λ rise at. tt) w.book; seq = plus_seq d base old.view new.view w.seq; records = moves_plus d base old.view new.view k w.moves };
+      leaves = w.erases;
     }
 
 pub played_idle_read_fault : (d : Numbers) (base : Tallies) (old new : DeviceValue) (n : ℕ) → Holds d old new → IdleFault d n old new → ReadFault d (WithinIdle d n old.view new.view) old new
@@ -302,7 +312,7 @@ played_idle_read_fault d base old new n holds w f =
       stands_before = refl;
       stands_after = refl;
       off = λ h c. record { only = λ off. absurd off; always = λ on more. omega (arith, f.failed.change_faults, more) };
-      keeps = keeps d base old new holds;
+      keeps = keeps d base old new holds (read_failed_tells old.view.die new.view.die f.failed);
       placed = λ s b t. absurd (let l = t.write in cc);
       cause = λ h. read_rose old.view.die new.view.die f.failed;
       refused = not_refused d e tt (λ h. h) (λ h. h) (λ h. h) (λ h. cc) (λ h. cc) (λ h. cc) (λ h. cc);
@@ -311,6 +321,7 @@ played_idle_read_fault d base old new n holds w f =
       tallies = record { first = omega (arith, w.counts.first); second = omega (arith, w.counts.second); declined = omega (arith, w.counts.declined) };
       true_book = λ h. holds.true_book f.running;
       moves = record { book = plus_book d base old.view new.view (λ rise at. tt) w.book; seq = plus_seq d base old.view new.view w.seq; records = unfinished_plus d base old.view new.view n w.moves };
+      leaves = w.erases;
     }
 
 pub played_idle_change_fault : (d : Numbers) (base : Tallies) (old new : DeviceValue) (n : ℕ) → Holds d old new → IdleFault d n old new → IsSound d.geometry old.view.die.cells → ChangeFault d (WithinIdle d n old.view new.view) (rows_of d old.view) old new
@@ -322,7 +333,7 @@ played_idle_change_fault d base old new n holds w sound f =
       stands_before = refl;
       stands_after = f.rows sound;
       off = λ h c. record { only = λ off. f.failed.change_faults; always = λ on. absurd on };
-      keeps = keeps d base old new holds;
+      keeps = keeps d base old new holds (change_failed_tells old.view.die new.view.die f.failed);
       placed = λ s b t. absurd (let l = t.write in cc);
       cause = λ h. change_rose old.view.die new.view.die f.failed;
       refused = not_refused d e tt (λ h. h) (λ h. h) (λ h. h) (λ h. cc) (λ h. cc) (λ h. cc) (λ h. cc);
@@ -331,6 +342,7 @@ played_idle_change_fault d base old new n holds w sound f =
       tallies = record { first = omega (arith, w.counts.first); second = omega (arith, w.counts.second); declined = omega (arith, w.counts.declined) };
       true_book = λ on. absurd on;
       moves = record { book = plus_book d base old.view new.view (λ rise at. tt) w.book; seq = plus_seq d base old.view new.view w.seq; records = unfinished_plus d base old.view new.view n w.moves };
+      leaves = w.erases;
     }
 
 -- ---- reads
@@ -347,7 +359,7 @@ played_read d base old new sector bytes a runs =
       stands_before = refl;
       stands_after = refl;
       off = λ h. cc;
-      keeps = keeps_cells d (plus base old.view) (plus base new.view) a.holds.kept.shape same;
+      keeps = keeps_cells d (plus base old.view) (plus base new.view) a.holds.kept.shape same (went_tells old.view.die new.view.die (passed_went {Bounded = ⊥} a.calls));
       placed = λ s b t. absurd (let l = t.write in cc);
       cause = λ h. cc;
       refused = not_refused d e tt (λ h. omega (arith, a.in_range)) (λ h. h) (λ h. h) (λ h. cc) (λ h. cc) (λ h. cc) (λ h. cc);
@@ -360,6 +372,7 @@ played_read d base old new sector bytes a runs =
         seq = same_seq d (plus base old.view) (plus base new.view) (still (λ v. v.seq)) same.cells;
         records = tt;
       };
+      leaves = same.erases;
     }
 
 pub played_read_fault : (d : Numbers) (base : Tallies) (old new : DeviceValue) (sector : ℕ) → ReadWithFault d sector old new → new.stopped ≡ false
@@ -374,7 +387,7 @@ played_read_fault d base old new sector a runs =
       stands_before = refl;
       stands_after = refl;
       off = λ h c. absurd c;
-      keeps = keeps_cells d (plus base old.view) (plus base new.view) a.holds.kept.shape same;
+      keeps = keeps_cells d (plus base old.view) (plus base new.view) a.holds.kept.shape same (read_failed_tells old.view.die new.view.die a.failed);
       placed = λ s b t. absurd (let l = t.write in cc);
       cause = λ h. read_rose old.view.die new.view.die a.failed;
       refused = not_refused d e tt (λ h. omega (arith, a.in_range)) (λ h. h) (λ h. h) (λ h. cc) (λ h. cc) (λ h. cc) (λ h. cc);
@@ -387,4 +400,5 @@ played_read_fault d base old new sector a runs =
         seq = same_seq d (plus base old.view) (plus base new.view) (still (λ v. v.seq)) same.cells;
         records = tt;
       };
+      leaves = same.erases;
     }

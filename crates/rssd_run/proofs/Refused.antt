@@ -6,17 +6,19 @@ use Rattle.rssd_script.specs.declared.replies.Reply.{Reply}
 use Rattle.rssd_script.specs.declared.replies.Reply.TheVariants.{Range, Long, Spent, Off as SaysOff, Fault, NoSpare, Stat as Counts}
 use Rattle.rssd_core.specs.SectorArray.{filled_up}
 use Rattle.rssd_core.specs.DeviceValue.{Numbers, DeviceView, DeviceValue}
+use Rattle.rssd_core.specs.Failures.{Tells, TellsPower}
 use Rattle.rssd_run.specs.ArrayWithCuts.{ArrayState, On, Off, Row}
 use Rattle.rssd_run.specs.View.{View, Event, StandsFor, NoFailure, IsOn, IsOff, erased}
 use Rattle.rssd_run.specs.Held.{Tallies, on, off}
 use Rattle.rssd_run.specs.Armed.{Arms, change_calls, read_calls}
+use Rattle.rssd_run.specs.Leaves.{Leaves}
 use Rattle.rssd_run.specs.Moves.{BookMoves, ByRules, MayChange, RisesBy}
 use Rattle.rssd_run.specs.Placing.{IsTried, PlacedExactly}
 use Rattle.rssd_run.specs.Step.{IsStep, RefusedExactly, OutOfRange, TooLong, NumbersSpent, AlwaysAnswered, firsts, seconds, declines, IdleAnswer, StatAnswer, TrueWhileOn}
 use Rattle.rssd_run.specs.Steps.{IsKept, Steps}
 use Rattle.rssd_run.specs.Shows.{stat_of}
 use Rattle.rssd_run.proofs.Came.{none_came}
-use Rattle.rssd_run.proofs.Parts.{no_fault, keeps_same, not_both}
+use Rattle.rssd_run.proofs.Parts.{no_fault, keeps_same, keeps_none, not_both}
 use Rattle.rssd_run.proofs.Still.{same_book, same_seq, lowers_none}
 use Rattle.rssd_run.proofs.MountSteps.{never_refused}
 use Rattle.rssd_run.proofs.WriteSteps.{event_of, sector_in, bytes_in}
@@ -34,12 +36,17 @@ pub record Stays (d : Numbers) (v : View) (line : Line) (reply : Reply) : Type 0
   pub stat : StatAnswer (event_of line reply v v) reply
   pub moves : BookMoves d (event_of line reply v v) line reply
   pub arms : Arms (event_of line reply v v) line reply
+  pub leaves : Leaves d (event_of line reply v v) line reply
   pub calls : (change_calls d v.device line reply ≡ 0) × (read_calls d v.device line reply ≡ 0)
   pub placed : (sector : ℕ) (bytes : List ℕ) → IsTried d (event_of line reply v v) sector bytes → PlacedExactly d (event_of line reply v v) sector (filled_up d.geometry.sector_bytes bytes)
 
-pub stays_step : (d : Numbers) (v : View) (line : Line) (reply : Reply) → StandsFor d v → TrueWhileOn d v
+-- while the session is on its die, if it tells, has power
+abbrev pub PoweredWhileOn : View → Type 0
+PoweredWhileOn v = IsOn v.array → Tells v.device.die → TellsPower v.device.die
+
+pub stays_step : (d : Numbers) (v : View) (line : Line) (reply : Reply) → StandsFor d v → TrueWhileOn d v → PoweredWhileOn v
     → v.device.first < 2 ^ 64 → v.device.second < 2 ^ 64 → v.device.declined < 2 ^ 64 → Stays d v line reply → IsStep d (event_of line reply v v)
-stays_step d v line reply stands book small_first small_second small_declined s =
+stays_step d v line reply stands book power small_first small_second small_declined s =
     let e : Event = event_of line reply v v in
     let none : NoFailure e = none_came v.device.die v.device.die (lowers_none {Bounded = ⊥} v.device.die) in
     record {
@@ -61,10 +68,12 @@ stays_step d v line reply stands book small_first small_second small_declined s 
       true_book = book;
       moves = s.moves;
       armed = record { arms = s.arms; lowers = λ a f. rw s.calls.0 (rw s.calls.1 (lowers_none v.device.die)); fault = λ h. absurd (s.no_fault h) };
+      power = power;
+      leaves = s.leaves;
     }
 
 -- nothing moves
-still_moves : (d : Numbers) (v : View) (line : Line) (reply : Reply) → v.device.moved < 2 ^ 64 → MayChange line reply [] → RisesBy (event_of line reply v v) line reply [] 0
+still_moves : (d : Numbers) (v : View) (line : Line) (reply : Reply) → v.device.moved < 2 ^ 64 → MayChange v.array line reply [] → RisesBy (event_of line reply v v) line reply [] 0
     → ByRules d (event_of line reply v v)
 still_moves d v line reply small may rises = record {
   book = same_book d v.device v.device refl refl small (λ c. absurd (omega (arith, c.0, c.1))) may rises;
@@ -110,7 +119,7 @@ is_spent d e here near few spent reply = record {
 -- a line that leaves each view as it is
 pub still_steps : (d : Numbers) (old : DeviceValue) → IsKept d old → old.stopped ≡ false → (line : Line) (reply : Reply) → ((base : Tallies) → Stays d (on d base old) line reply) → Steps d line reply old old
 still_steps d old kept running line reply stays =
-    runs_on d line reply old old kept running (λ calm base. stays_step d (on d base old) line reply refl (λ o. kept.book running) (omega arith) (omega arith) (omega arith) (stays base))
+    runs_on d line reply old old kept (keeps_none d old.view.die) running (λ calm base. stays_step d (on d base old) line reply refl (λ o. kept.book running) (λ o tells. kept.power running) (omega arith) (omega arith) (omega arith) (stays base))
 
 module _ (d : Numbers) (old : DeviceValue) (base : Tallies) where
   pub write_range : (sector : ℕ) (bytes : List ℕ) → d.geometry.sectors ≤ sector → Stays d (on d base old) (Write sector bytes) Range
@@ -125,6 +134,7 @@ module _ (d : Numbers) (old : DeviceValue) (base : Tallies) where
     stat = tt;
     moves = (still_moves d (on d base old) (Write sector bytes) Range (omega arith) refl refl, tt);
     arms = tt;
+    leaves = refl;
     calls = (refl, refl);
     placed = λ s b t. absurd (omega (arith, far, t.in_range, ap sector_in t.write));
   }
@@ -141,6 +151,7 @@ module _ (d : Numbers) (old : DeviceValue) (base : Tallies) where
     stat = tt;
     moves = (still_moves d (on d base old) (Write sector bytes) Long (omega arith) refl refl, tt);
     arms = tt;
+    leaves = refl;
     calls = (refl, refl);
     placed = λ s b t. absurd (omega (arith, many, t.fits, ap length (ap bytes_in t.write)));
   }
@@ -157,6 +168,7 @@ module _ (d : Numbers) (old : DeviceValue) (base : Tallies) where
     stat = tt;
     moves = (still_moves d (on d base old) (Write sector bytes) Spent (omega arith) refl refl, tt);
     arms = tt;
+    leaves = refl;
     calls = (refl, refl);
     placed = λ s b t. absurd (omega (arith, t.numbers, spent));
   }
@@ -173,6 +185,7 @@ module _ (d : Numbers) (old : DeviceValue) (base : Tallies) where
     stat = tt;
     moves = (still_moves d (on d base old) (Read sector) Range (omega arith) refl refl, tt);
     arms = tt;
+    leaves = refl;
     calls = (refl, refl);
     placed = λ s b t. absurd (let l = t.write in cc);
   }
@@ -189,6 +202,7 @@ module _ (d : Numbers) (old : DeviceValue) (base : Tallies) where
     stat = tt;
     moves = (still_moves d (on d base old) (Trim sector) Range (omega arith) refl refl, tt);
     arms = tt;
+    leaves = refl;
     calls = (refl, refl);
     placed = λ s b t. absurd (let l = t.write in cc);
   }
@@ -205,6 +219,7 @@ module _ (d : Numbers) (old : DeviceValue) (base : Tallies) where
     stat = tt;
     moves = (still_moves d (on d base old) (Trim sector) Spent (omega arith) refl refl, tt);
     arms = tt;
+    leaves = refl;
     calls = (refl, refl);
     placed = λ s b t. absurd (let l = t.write in cc);
   }
@@ -238,22 +253,23 @@ record OffStays (d : Numbers) (v : View) (line : Line) : Type 0 where
   idle : IdleAnswer (event_of line SaysOff v v) line SaysOff
   moves : BookMoves d (event_of line SaysOff v v) line SaysOff
   arms : Arms (event_of line SaysOff v v) line SaysOff
+  leaves : Leaves d (event_of line SaysOff v v) line SaysOff
   calls : (change_calls d v.device line SaysOff ≡ 0) × (read_calls d v.device line SaysOff ≡ 0)
 
 off_stays : (d : Numbers) (v : View) (line : Line) → v.device.moved < 2 ^ 64 → (AlwaysAnswered line → ⊥) → OffStays d v line
-off_stays d v (Write sector bytes) small never = record { no_mount = λ h. cc; idle = tt; moves = (still_moves d v (Write sector bytes) SaysOff small refl refl, tt); arms = tt; calls = (refl, refl) }
-off_stays d v (Read sector) small never = record { no_mount = λ h. cc; idle = tt; moves = (still_moves d v (Read sector) SaysOff small refl refl, tt); arms = tt; calls = (refl, refl) }
-off_stays d v (Trim sector) small never = record { no_mount = λ h. cc; idle = tt; moves = (still_moves d v (Trim sector) SaysOff small refl refl, tt); arms = tt; calls = (refl, refl) }
-off_stays d v (Idle n) small never = record { no_mount = λ h. cc; idle = tt; moves = (still_moves d v (Idle n) SaysOff small refl refl, tt); arms = tt; calls = (refl, refl) }
-off_stays d v (Cut n torn) small never = record { no_mount = λ h. cc; idle = tt; moves = (still_moves d v (Cut n torn) SaysOff small refl refl, tt); arms = tt; calls = (refl, refl) }
-off_stays d v (FailRead n) small never = record { no_mount = λ h. cc; idle = tt; moves = (still_moves d v (FailRead n) SaysOff small refl refl, tt); arms = tt; calls = (refl, refl) }
+off_stays d v (Write sector bytes) small never = record { no_mount = λ h. cc; idle = tt; moves = (still_moves d v (Write sector bytes) SaysOff small refl refl, tt); arms = tt; leaves = refl; calls = (refl, refl) }
+off_stays d v (Read sector) small never = record { no_mount = λ h. cc; idle = tt; moves = (still_moves d v (Read sector) SaysOff small refl refl, tt); arms = tt; leaves = refl; calls = (refl, refl) }
+off_stays d v (Trim sector) small never = record { no_mount = λ h. cc; idle = tt; moves = (still_moves d v (Trim sector) SaysOff small refl refl, tt); arms = tt; leaves = refl; calls = (refl, refl) }
+off_stays d v (Idle n) small never = record { no_mount = λ h. cc; idle = tt; moves = (still_moves d v (Idle n) SaysOff small refl refl, tt); arms = tt; leaves = refl; calls = (refl, refl) }
+off_stays d v (Cut n torn) small never = record { no_mount = λ h. cc; idle = tt; moves = (still_moves d v (Cut n torn) SaysOff small refl refl, tt); arms = tt; leaves = refl; calls = (refl, refl) }
+off_stays d v (FailRead n) small never = record { no_mount = λ h. cc; idle = tt; moves = (still_moves d v (FailRead n) SaysOff small refl refl, tt); arms = tt; leaves = refl; calls = (refl, refl) }
 off_stays d v Mount small never = absurd (never tt)
 off_stays d v Stat small never = absurd (never tt)
 
 pub off_step : (d : Numbers) (v : View) (line : Line) → StandsFor d v → IsOff v.array → IsSmall v.device → (AlwaysAnswered line → ⊥) → IsStep d (event_of line SaysOff v v)
 off_step d v line stands here small never =
     let rest = off_stays d v line small.moved never in
-    stays_step d v line SaysOff stands (λ on. absurd (not_on v.array here on)) small.first small.second small.declined (record {
+    stays_step d v line SaysOff stands (λ on. absurd (not_on v.array here on)) (λ on. absurd (not_on v.array here on)) small.first small.second small.declined (record {
       row = off_row d.geometry.sector_bytes v.array line here never;
       refused = is_off d (event_of line SaysOff v v) here never refl;
       no_fault = λ h. cc;
@@ -264,6 +280,7 @@ off_step d v line stands here small never =
       stat = tt;
       moves = rest.moves;
       arms = rest.arms;
+      leaves = rest.leaves;
       calls = rest.calls;
       placed = λ s b t. absurd (not_on v.array here t.on);
     })
@@ -272,9 +289,9 @@ stat_row : (size : ℕ) (array : ArrayState) (first second declined moved erases
 stat_row size (On rows) first second declined moved erases = refl
 stat_row size (Off a b) first second declined moved erases = refl
 
-pub stat_step : (d : Numbers) (v : View) → StandsFor d v → TrueWhileOn d v → IsSmall v.device → IsStep d (event_of Stat (stat_of v) v v)
-stat_step d v stands book small =
-    stays_step d v Stat (stat_of v) stands book small.first small.second small.declined (record {
+pub stat_step : (d : Numbers) (v : View) → StandsFor d v → TrueWhileOn d v → PoweredWhileOn v → IsSmall v.device → IsStep d (event_of Stat (stat_of v) v v)
+stat_step d v stands book power small =
+    stays_step d v Stat (stat_of v) stands book power small.first small.second small.declined (record {
       row = stat_row d.geometry.sector_bytes v.array v.device.first v.device.second v.device.declined v.device.moved (erased v);
       refused = never_refused d (event_of Stat (stat_of v) v v) tt (λ h. h) (λ h. h) (λ h. h) (λ h. cc) (λ h. cc) (λ h. cc) (λ h. cc);
       no_fault = λ h. cc;
@@ -285,6 +302,7 @@ stat_step d v stands book small =
       stat = (refl, refl, refl, refl, refl);
       moves = (still_moves d v Stat (stat_of v) small.moved refl refl, tt);
       arms = tt;
+      leaves = refl;
       calls = (refl, refl);
       placed = λ s b t. absurd (let l = t.write in cc);
     })

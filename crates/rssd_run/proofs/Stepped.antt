@@ -1,5 +1,5 @@
 -- Lines on a device that runs: what its calls leave are steps for every view that it stands for.
-use Rattle.std.proofs.Common.{◌≡◌, ◌⊎◌, inl, inr, ℕ, ◌≤◌, ◌<◌, List, [], Option, IsSomeAnd, Bool, true, false, length, None, Some, refl, sym, ap, ◌∙◌, slice_index_or}
+use Rattle.std.proofs.Common.{◌≡◌, ◌⊎◌, inl, inr, ℕ, ◌≤◌, ◌<◌, List, [], IsSomeAnd, Bool, true, false, length, refl, sym, ap, ◌∙◌, slice_index_or}
 use Rattle.cell_die.specs.DieState.{DieState, Failures}
 use Rattle.cell_die.specs.Calls.{ChangeFailed, CutCame as Cut, Passed, ReadFailed}
 use Rattle.cell_die.specs.Power.{told, with_cut, with_read_failure}
@@ -17,13 +17,13 @@ use Rattle.rssd_core.specs.Within.{Went, WithinWrite, WithinTrim, WithinIdle, se
 use Rattle.rssd_core.specs.Outcomes.{Holds, Wrote, WriteFault, Trimmed, TrimFault, Idled, IdleFault, OnlyDie, Faulted, ReadFault, ChangeFault, TrueWhileRunning}
 use Rattle.rssd_run.specs.ArrayWithCuts.{On, Off}
 use Rattle.rssd_run.specs.Held.{Tallies, on, off, Calm, reply_of}
-use Rattle.std.specs.Option.{option_map}
 use Rattle.rssd_run.proofs.LineSteps.{cut_step, fail_read_step, read_step, read_fault_step}
 use Rattle.rssd_run.proofs.CommandSteps.{bounded, trimmed_step, trim_read_fault, trim_change_fault, idled_step, idle_read_fault, idle_change_fault}
 use Rattle.rssd_run.specs.Armed.{form_of_word}
-use Rattle.rssd_run.specs.Step.{IsStep}
+use Rattle.rssd_run.specs.Step.{IsStep, KeepsDie}
 use Rattle.rssd_run.specs.Steps.{IsKept, Steps, ArrayIs}
-use Rattle.rssd_run.proofs.Came.{power_tells, went_power, AReadCame, read_came, powered_case, HasPower, passed_went}
+use Rattle.rssd_run.proofs.Came.{power_tells, went_tells, change_failed_tells, read_failed_tells, went_power, AReadCame, read_came, powered_case, passed_went}
+use Rattle.rssd_run.proofs.Still.{keeps_die, still_tells, still_powered}
 use Rattle.rssd_run.proofs.WriteSteps.{event_of, Tried, wrote_first, wrote_second, wrote_declined, write_read_fault, write_change_fault}
 
 pub change_tells : {changes reads : ℕ} (old new : DieState) → TellsPower old → ChangeFailed changes reads old new → Tells new
@@ -39,10 +39,11 @@ array_stops true e rows a b one = (tt, one)
 array_stops false e rows a b one = cc
 
 -- a step of a device that runs on
-pub runs_on : (d : Numbers) (line : Line) (reply : Reply) (old new : DeviceValue) → IsKept d new → new.stopped ≡ false
+pub runs_on : (d : Numbers) (line : Line) (reply : Reply) (old new : DeviceValue) → IsKept d new → KeepsDie d old.view.die new.view.die → new.stopped ≡ false
     → (Calm d old.view.die → (base : Tallies) → IsStep d (event_of line reply (on d base old) (on d base new))) → Steps d line reply old new
-runs_on d line reply old new kept running step = record {
+runs_on d line reply old new kept keeps running step = record {
   kept = kept;
+  keeps = keeps;
   step = λ calm base. (On (rows_of d new.view), array_runs new.stopped running (rows_of d new.view), step calm base);
 }
 
@@ -66,10 +67,14 @@ module _ (d : Numbers) (old new : DeviceValue) (kept : IsKept d old) (running : 
     book = holds.true_book;
   }
 
+  -- and what becomes of its die
+  die_kept : (Tells old.view.die → Tells new.view.die) → KeepsDie d old.view.die new.view.die
+  die_kept tells = record { shape = holds.kept.shape; tells = tells; never_falls = holds.kept.never_falls; no_pad = holds.no_pad; sound = holds.sound }
+
   -- a call that passed
   pub went_steps : {changes reads : ℕ} {Bounded : Type 0} (line : Line) (reply : Reply) → Went changes reads Bounded old.view.die new.view.die → new.stopped ≡ false
       → ((base : Tallies) → IsStep d (event_of line reply (on d base old) (on d base new))) → Steps d line reply old new
-  went_steps line reply went runs step = runs_on d line reply old new (kept_on (went_power old.view.die new.view.die (kept.power running) went)) runs (λ calm. step)
+  went_steps line reply went runs step = runs_on d line reply old new (kept_on (went_power old.view.die new.view.die (kept.power running) went)) (die_kept (went_tells old.view.die new.view.die went)) runs (λ calm. step)
 
   -- a call in which the die failed
   pub fault_steps : (line : Line) (Within : ℕ → ℕ → Type 0) (done : List (List ℕ)) → Faulted d Within done old new
@@ -78,9 +83,10 @@ module _ (d : Numbers) (old new : DeviceValue) (kept : IsKept d old) (running : 
       → Steps d line Fault old new
   fault_steps line Within done (inl f) read change =
       let came : AReadCame f.changes f.reads old.view.die new.view.die = read_came old.view.die new.view.die (kept.power running) f.failed in
-      runs_on d line Fault old new (kept_on came.power) f.running (λ calm. read f)
+      runs_on d line Fault old new (kept_on came.power) (die_kept (read_failed_tells old.view.die new.view.die f.failed)) f.running (λ calm. read f)
   fault_steps line Within done (inr f) read change = record {
     kept = kept_stopped f.failed f.stopped;
+    keeps = die_kept (change_failed_tells old.view.die new.view.die f.failed);
     step = λ calm base.
         let s = change f calm base in
         (Off (rows_of d old.view) done, array_stops new.stopped f.stopped (rows_of d new.view) (rows_of d old.view) done s.stands_after, s);
@@ -132,33 +138,27 @@ idle_fault_steps d n old new kept running holds w =
 -- ---- lines that arm failures: the die tells as before, and keeps its power
 
 module _ (change : Failures → Failures) (same : (failures : Failures) → (change failures).powered ≡ failures.powered) where
-  still_tells : (x : Option Failures) → IsSomeAnd x (λ f. Unit {0}) → IsSomeAnd (option_map change x) (λ f. Unit {0})
-  still_tells None h = absurd h
-  still_tells (Some a) h = tt
-
-  still_powered : (x : Option Failures) → HasPower x → HasPower (option_map change x)
-  still_powered None h = absurd h
-  still_powered (Some a) h = same a ∙ h
-
   told_kept : (d : Numbers) (old : DeviceValue) → IsKept d old → IsKept d (with_die (told change) old)
   told_kept d old kept = record {
     numbers = kept.numbers;
     shape = kept.shape;
-    tells = still_tells old.view.die.failures kept.tells;
-    power = λ running. still_powered old.view.die.failures (kept.power running);
+    tells = still_tells change same old.view.die.failures kept.tells;
+    power = λ running. still_powered change same old.view.die.failures (kept.power running);
     book = kept.book;
   }
 
 pub cut_steps : (d : Numbers) (old : DeviceValue) (n : ℕ) (torn : TornWord) → 1 ≤ n → IsKept d old → old.stopped ≡ false
     → Steps d (CutLine n torn) Done old (with_die (told (with_cut n (form_of_word torn))) old)
 cut_steps d old n torn some kept running =
-    runs_on d (CutLine n torn) Done old (with_die (told (with_cut n (form_of_word torn))) old) (told_kept (with_cut n (form_of_word torn)) (λ failures. refl) d old kept) running
-    (λ calm base. cut_step d base old n torn some running kept.book)
+    runs_on d (CutLine n torn) Done old (with_die (told (with_cut n (form_of_word torn))) old) (told_kept (with_cut n (form_of_word torn)) (λ failures. refl) d old kept)
+    (keeps_die d old.view.die (told (with_cut n (form_of_word torn)) old.view.die) refl (record { cells = refl; erases = refl }) (still_tells (with_cut n (form_of_word torn)) (λ failures. refl) old.view.die.failures)) running
+    (λ calm base. cut_step d base old n torn some running (kept.power running) kept.book)
 
 pub fail_read_steps : (d : Numbers) (old : DeviceValue) (n : ℕ) → 1 ≤ n → IsKept d old → old.stopped ≡ false → Steps d (FailRead n) Done old (with_die (told (with_read_failure n)) old)
 fail_read_steps d old n some kept running =
-    runs_on d (FailRead n) Done old (with_die (told (with_read_failure n)) old) (told_kept (with_read_failure n) (λ failures. refl) d old kept) running
-    (λ calm base. fail_read_step d base old n some running kept.book)
+    runs_on d (FailRead n) Done old (with_die (told (with_read_failure n)) old) (told_kept (with_read_failure n) (λ failures. refl) d old kept)
+    (keeps_die d old.view.die (told (with_read_failure n) old.view.die) refl (record { cells = refl; erases = refl }) (still_tells (with_read_failure n) (λ failures. refl) old.view.die.failures)) running
+    (λ calm base. fail_read_step d base old n some running (kept.power running) kept.book)
 
 -- ---- reads
 
@@ -179,5 +179,5 @@ module _ (d : Numbers) (old new : DeviceValue) (sector : ℕ) (in_range : sector
   pub read_fault_steps : ReadFailed 0 (sector_reads d old.view sector) old.view.die new.view.die → Steps d (Read sector) Fault old new
   read_fault_steps failed =
       let came : AReadCame 0 (sector_reads d old.view sector) old.view.die new.view.die = read_came old.view.die new.view.die (kept.power running) failed in
-      runs_on d (Read sector) Fault old new (kept_on d old new kept running holds came.power) (ap (λ device. device.stopped) is_over ∙ running)
+      runs_on d (Read sector) Fault old new (kept_on d old new kept running holds came.power) (die_kept d old new kept running holds (read_failed_tells old.view.die new.view.die failed)) (ap (λ device. device.stopped) is_over ∙ running)
       (λ calm base. rw is_over (read_fault_step d base old new.view.die sector in_range running (kept.power running) book_over holds.kept.shape only.cells failed))

@@ -1,5 +1,5 @@
 -- Writes: what a device's call leaves makes a step.
-use Rattle.std.proofs.Common.{◌≡◌, ◌⊎◌, inl, inr, ℕ, ◌^◌, ◌≤◌, ◌<◌, List, [], length, Option, None, Some, refl, arith, sym, ap, ◌∙◌}
+use Rattle.std.proofs.Common.{◌≡◌, ◌⊎◌, inl, inr, ℕ, ◌^◌, ◌≤◌, ◌<◌, true, false, List, [], length, Option, None, Some, refl, arith, sym, ap, ◌∙◌}
 use Rattle.std.proofs.lemmas.Option.{none-some}
 use Rattle.reuse_pool.specs.declared.unit.ReuseUnit.{ReuseUnit}
 use Rattle.rssd_script.specs.declared.lines.Line.{Line}
@@ -19,8 +19,8 @@ use Rattle.rssd_run.specs.View.{View, Event, NoFailure, ACut, AReadFailure}
 use Rattle.rssd_run.specs.Held.{Tallies, plus, on, off, Calm}
 use Rattle.rssd_run.specs.Placing.{IsTried, PlacedExactly}
 use Rattle.rssd_run.specs.Step.{IsStep}
-use Rattle.rssd_run.proofs.Came.{went_lowers, none_came, ACutCame, change_came, AReadCame, read_came, change_rose, read_rose}
-use Rattle.rssd_run.proofs.Parts.{not_refused, no_fault, keeps, plus_book, plus_seq}
+use Rattle.rssd_run.proofs.Came.{went_lowers, none_came, ACutCame, change_came, AReadCame, read_came, change_rose, read_rose, went_tells, went_power, change_failed_tells, read_failed_tells}
+use Rattle.rssd_run.proofs.Parts.{not_refused, no_fault, keeps, plus_book, plus_seq, gets_plus, over_draws_plus, erased_plus, write_book_so}
 
 abbrev pub event_of : Line → Reply → View → View → Event
 event_of line reply before after = record { line = line; reply = reply; before = before; after = after }
@@ -87,7 +87,7 @@ wrote_first d base old new sector bytes tried power holds w =
       stands_before = refl;
       stands_after = refl;
       off = λ h. cc;
-      keeps = keeps d base old new holds;
+      keeps = keeps d base old new holds (went_tells old.view.die new.view.die w.calls);
       placed = of_line d e sector bytes refl placed;
       fault = no_fault e (λ h. cc) none;
       answers = record {
@@ -101,6 +101,8 @@ wrote_first d base old new sector bytes tried power holds w =
       true_book = λ h. holds.true_book w.running;
       moves = (record { book = plus_book d base old.view new.view (λ rise at came. at power came) w.book; seq = plus_seq d base old.view new.view w.seq }, tt);
       armed = record { arms = tt; lowers = λ a f. lowers; fault = λ h. cc };
+      power = λ on tells. went_power old.view.die new.view.die power w.calls;
+      leaves = gets_plus base old.view new.view w.draws;
     }
 
 pub wrote_second : (d : Numbers) (base : Tallies) (old new : DeviceValue) (sector : ℕ) (bytes : List ℕ) → Tried d old sector bytes → TellsPower old.view.die → Holds d old new
@@ -121,7 +123,7 @@ wrote_second d base old new sector bytes tried power holds w =
       stands_before = refl;
       stands_after = refl;
       off = λ h. cc;
-      keeps = keeps d base old new holds;
+      keeps = keeps d base old new holds (went_tells old.view.die new.view.die w.calls);
       placed = of_line d e sector bytes refl placed;
       fault = no_fault e (λ h. cc) none;
       answers = record {
@@ -135,6 +137,8 @@ wrote_second d base old new sector bytes tried power holds w =
       true_book = λ h. holds.true_book w.running;
       moves = (record { book = plus_book d base old.view new.view (λ rise at came. at power came) w.book; seq = plus_seq d base old.view new.view w.seq }, tt);
       armed = record { arms = tt; lowers = λ a f. lowers; fault = λ h. cc };
+      power = λ on tells. went_power old.view.die new.view.die power w.calls;
+      leaves = over_draws_plus base old.view new.view w.draws;
     }
 
 pub wrote_declined : (d : Numbers) (base : Tallies) (old new : DeviceValue) (sector : ℕ) (bytes : List ℕ) → Tried d old sector bytes → TellsPower old.view.die → Holds d old new
@@ -155,7 +159,7 @@ wrote_declined d base old new sector bytes tried power holds w =
       stands_before = refl;
       stands_after = refl;
       off = λ h. cc;
-      keeps = keeps d base old new holds;
+      keeps = keeps d base old new holds (went_tells old.view.die new.view.die w.calls);
       placed = of_line d e sector bytes refl placed;
       fault = no_fault e (λ h. cc) none;
       answers = record {
@@ -169,6 +173,8 @@ wrote_declined d base old new sector bytes tried power holds w =
       true_book = λ h. holds.true_book w.running;
       moves = (record { book = plus_book d base old.view new.view (λ rise at came. at power came) w.book; seq = plus_seq d base old.view new.view w.seq }, tt);
       armed = record { arms = tt; lowers = λ a f. lowers; fault = λ h. cc };
+      power = λ on tells. went_power old.view.die new.view.die power w.calls;
+      leaves = gets_plus base old.view new.view w.draws;
     }
 
 -- no write is placed where the die failed
@@ -195,7 +201,7 @@ write_read_fault d base old new sector bytes tried power holds w f =
       stands_before = refl;
       stands_after = refl;
       off = λ h c. record { only = λ off. absurd off; always = λ on more. omega (arith, f.failed.change_faults, more) };
-      keeps = keeps d base old new holds;
+      keeps = keeps d base old new holds (read_failed_tells old.view.die new.view.die f.failed);
       placed = of_line d e sector bytes refl (not_placed d e sector (filled_up d.geometry.sector_bytes bytes) refl (inr came.came));
       fault = record {
         came = (λ h. inr came.came, λ h. refl);
@@ -211,7 +217,7 @@ write_read_fault d base old new sector bytes tried power holds w f =
         tallies = record { first = omega (arith, w.counts.first); second = omega (arith, w.counts.second); declined = omega (arith, w.counts.declined) };
       };
       true_book = λ h. holds.true_book f.running;
-      moves = (record { book = plus_book d base old.view new.view (λ rise at came. at power came) w.book; seq = plus_seq d base old.view new.view w.seq }, tt);
+      moves = (record { book = plus_book d base old.view new.view (λ rise at came. at power came) (write_book_so d old new sector (filled_up d.geometry.sector_bytes bytes) false f.running w); seq = plus_seq d base old.view new.view w.seq }, tt);
       armed = record {
         arms = tt;
         lowers = λ a not. absurd (not refl);
@@ -223,6 +229,8 @@ write_read_fault d base old new sector bytes tried power holds w f =
           read_came = λ read. (came.within, came.cut, came.form);
         };
       };
+      power = λ on tells. came.power;
+      leaves = erased_plus d base old.view new.view (filled_up d.geometry.sector_bytes bytes) w.erased;
     }
 
 -- what a write that was cut leaves is as before or as it was to be: over sound cells, or never where no cut is armed
@@ -242,7 +250,7 @@ write_change_fault d base old new sector bytes tried power calm holds w f =
       stands_before = refl;
       stands_after = calm_rows d old new calm came f.rows;
       off = λ h c. record { only = λ off. f.failed.change_faults; always = λ on. absurd on };
-      keeps = keeps d base old new holds;
+      keeps = keeps d base old new holds (change_failed_tells old.view.die new.view.die f.failed);
       placed = of_line d e sector bytes refl (not_placed d e sector (filled_up d.geometry.sector_bytes bytes) refl (inl came.came));
       fault = record {
         came = (λ h. inl came.came, λ h. refl);
@@ -258,7 +266,7 @@ write_change_fault d base old new sector bytes tried power calm holds w f =
         tallies = record { first = omega (arith, w.counts.first); second = omega (arith, w.counts.second); declined = omega (arith, w.counts.declined) };
       };
       true_book = λ on. absurd on;
-      moves = (record { book = plus_book d base old.view new.view (λ rise at came. at power came) w.book; seq = plus_seq d base old.view new.view w.seq }, tt);
+      moves = (record { book = plus_book d base old.view new.view (λ rise at came. at power came) (write_book_so d old new sector (filled_up d.geometry.sector_bytes bytes) true f.stopped w); seq = plus_seq d base old.view new.view w.seq }, tt);
       armed = record {
         arms = tt;
         lowers = λ a not. absurd (not refl);
@@ -270,4 +278,6 @@ write_change_fault d base old new sector bytes tried power calm holds w f =
           read_came = λ read. absurd (omega (arith, came.read.to_come read.0, read.1));
         };
       };
+      power = λ on. absurd on;
+      leaves = erased_plus d base old.view new.view (filled_up d.geometry.sector_bytes bytes) w.erased;
     }

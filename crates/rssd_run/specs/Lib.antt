@@ -1,9 +1,9 @@
-pub mod Reading
 pub mod Statuses
 pub mod ArrayWithCuts
 pub mod View
 pub mod Placing
 pub mod Armed
+pub mod Leaves
 pub mod Moves
 pub mod Step
 pub mod Run
@@ -13,6 +13,7 @@ pub mod Shows
 pub mod Played
 pub mod ReadScript
 pub mod ReadImage
+pub mod GiveImage
 pub mod Schemes
 pub mod Heads
 pub mod DieRuns
@@ -21,3 +22,7 @@ pub mod ImageRuns
 pub mod Top
 pub mod Calm
 pub mod Headline
+pub mod Reuse
+pub mod Workloads
+pub mod MakeRuns
+pub mod Upgrades

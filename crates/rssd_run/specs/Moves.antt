@@ -1,5 +1,5 @@
 -- How states, the next seq and the tally of moved records change in one step.
-use Rattle.std.specs.Prelude.{◌≡◌, ℕ, List, length}
+use Rattle.std.specs.Prelude.{◌≡◌, ℕ, Bool, true, false, List, length}
 use Rattle.rssd_script.specs.declared.lines.Line.{Line}
 use Rattle.rssd_script.specs.declared.lines.Line.TheVariants.{Write, Trim, Idle, Mount}
 use Rattle.rssd_script.specs.declared.replies.Reply.{Reply}
@@ -10,22 +10,28 @@ use Rattle.rssd_core.specs.BookChanges.{Change}
 use Rattle.rssd_core.specs.DeviceValue.{Numbers}
 use Rattle.rssd_core.specs.Moves.{MovesBook, MovesSeq, CollectAtCut}
 use Rattle.rssd_core.specs.IdleRule.{IdleMoves, IdleUnfinished}
-use Rattle.rssd_core.specs.Outcomes.{WriteMay, WriteFaultMay, TrimMay, IdleMay, RisesSealed, RisesTo, RisesFinished, WriteAtCut, IdleAtCut}
+use Rattle.rssd_core.specs.Outcomes.{WriteMay, WriteFaultMay, TrimMay, TrimFaultMay, IdleMay, RisesSealed, RisesTo, RisesFinished, WriteAtCut, IdleAtCut}
 use Rattle.rssd_core.specs.Mount.{IsMountedView}
 use Rattle.rssd_core.specs.Failures.{cut_of}
+use Rattle.rssd_run.specs.ArrayWithCuts.{ArrayState, On, Off}
 use Rattle.rssd_run.specs.View.{Event, ACut}
 
--- which changes a line may make of the book, by its reply
-abbrev pub MayChange : Line → Reply → List Change → Type 0
-MayChange (Write sector bytes) First changes = WriteMay PutFirst changes
-MayChange (Write sector bytes) Second changes = WriteMay PutSecond changes
-MayChange (Write sector bytes) Declined changes = WriteMay PutDeclined changes
-MayChange (Write sector bytes) Fault changes = WriteFaultMay changes
-MayChange (Trim sector) Done changes = TrimMay changes
-MayChange (Trim sector) Fault changes = TrimMay changes
-MayChange (Idle n) (Moves k) changes = IdleMay changes
-MayChange (Idle n) Fault changes = IdleMay changes
-MayChange line reply changes = length changes ≡ 0
+-- whether the array is off, as after a failed change call
+abbrev pub is_off : ArrayState → Bool
+is_off (On rows) = false
+is_off (Off old new) = true
+
+-- which changes a line may make of the book, by its reply and by the state after it
+abbrev pub MayChange : ArrayState → Line → Reply → List Change → Type 0
+MayChange after (Write sector bytes) First changes = WriteMay PutFirst changes
+MayChange after (Write sector bytes) Second changes = WriteMay PutSecond changes
+MayChange after (Write sector bytes) Declined changes = WriteMay PutDeclined changes
+MayChange after (Write sector bytes) Fault changes = WriteFaultMay (is_off after) changes
+MayChange after (Trim sector) Done changes = TrimMay changes
+MayChange after (Trim sector) Fault changes = TrimFaultMay (is_off after) changes
+MayChange after (Idle n) (Moves k) changes = IdleMay changes
+MayChange after (Idle n) Fault changes = IdleMay changes
+MayChange after line reply changes = length changes ≡ 0
 
 -- by how much the tally of moved records rises: a collection's records at its seal, an idle move at its gate
 abbrev pub RisesBy : Event → Line → Reply → List Change → ℕ → Type 0
@@ -45,7 +51,7 @@ WhereCutCame d e rise = ACut e → AtCut d e e.line (cut_of e.before.device.die)
 
 -- the book moves by uses of rules, and the next seq as they draw it
 pub record ByRules (d : Numbers) (e : Event) : Type 0 where
-  pub book : MovesBook d (MayChange e.line e.reply) (RisesBy e e.line e.reply) (WhereCutCame d e) e.before.device e.after.device
+  pub book : MovesBook d (MayChange e.after.array e.line e.reply) (RisesBy e e.line e.reply) (WhereCutCame d e) e.before.device e.after.device
   pub seq : MovesSeq d e.before.device e.after.device
 
 -- an idle call that answers k moves the live records of exactly k sectors by the idle-move rule; before a fault some were moved

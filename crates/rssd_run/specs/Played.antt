@@ -23,6 +23,7 @@ use Rattle.rssd_run.specs.View.{View, Event, StandsFor, faults, IsCommand}
 use Rattle.rssd_run.specs.Held.{Tallies}
 use Rattle.rssd_run.specs.Moves.{MayChange, RisesBy, MovesRecords}
 use Rattle.rssd_run.specs.Placing.{IsTried}
+use Rattle.rssd_run.specs.Leaves.{Leaves}
 use Rattle.rssd_run.specs.Step.{OffExactly, KeepsDie, RefusedExactly, IdleAnswer, IsRefusal, TalliesRise, TrueWhileOn}
 use Rattle.rssd_run.specs.Shows.{Mounted, ShowsHolding}
 
@@ -113,11 +114,11 @@ pub record PlacedSo (d : Numbers) (e : Event) (sector : ℕ) (row : List ℕ) : 
   pub declined : (e.reply ≡ Declined) ↔ ((e.reply ≡ Fault → ⊥) × OfferDeclines d e.before.device row)
   pub first : (e.reply ≡ First) ↔ ((e.reply ≡ Fault → ⊥) × (offer_of e.before.device.book ≡ None))
   pub over_unit : e.reply ≡ Second → (unit : ReuseUnit) → offer_of e.before.device.book ≡ Some unit → OverUnit d e.before.device e.after.device sector unit
-  pub on_clean : (e.reply ≡ Declined) ⊎ (e.reply ≡ First) → OnCleanPage d e.before.device e.after.device sector
+  pub on_clean : (e.reply ≡ Declined) ⊎ (e.reply ≡ First) → OnCleanPage d e.before.device e.after.device sector 1
 
 -- the book moves by uses of rules, the next seq as they draw it, and the tally by what they moved
 pub record PlayedBook (d : Numbers) (e : Event) : Type 0 where
-  pub book : MovesBook d (MayChange e.line e.reply) (RisesBy e e.line e.reply) (λ rise. Unit {0}) e.before.device e.after.device
+  pub book : MovesBook d (MayChange e.after.array e.line e.reply) (RisesBy e e.line e.reply) (λ rise. Unit {0}) e.before.device e.after.device
   pub seq : MovesSeq d e.before.device e.after.device
   pub records : MovesRecords d e e.line e.reply
 
@@ -127,7 +128,7 @@ pub record IsPlayedStep (d : Numbers) (e : Event) : Type 0 where
   pub stands_before : StandsFor d e.before
   pub stands_after : StandsFor d e.after
   pub off : e.reply ≡ Fault → IsCommand e.line → OffExactly e
-  pub keeps : KeepsDie d e.before.device e.after.device
+  pub keeps : KeepsDie d e.before.device.die e.after.device.die
   pub placed : (sector : ℕ) (bytes : List ℕ) → IsTried d e sector bytes → PlacedSo d e sector (filled_up d.geometry.sector_bytes bytes)
   pub cause : e.reply ≡ Fault → Rose (faults e.before.device.die) (faults e.after.device.die)
   pub refused : RefusedExactly d e
@@ -136,6 +137,7 @@ pub record IsPlayedStep (d : Numbers) (e : Event) : Type 0 where
   pub tallies : TalliesRise e
   pub true_book : TrueWhileOn d e.after
   pub moves : PlayedBook d e
+  pub leaves : Leaves d e e.line e.reply
 
 -- From each view that the device stood for, over sound cells and where its book was true, the line and its reply are such a
 -- step to a view that it stands for.

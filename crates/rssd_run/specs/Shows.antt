@@ -16,7 +16,7 @@ use Rattle.rssd_script.specs.declared.replies.Reply.TheVariants.{Stat as Counted
 use Rattle.rssd_run.specs.View.{View, IsOff, StandsFor, erased}
 use Rattle.rssd_run.specs.Held.{Tallies, plus, tallies_of, Calm}
 use Rattle.rssd_run.specs.Steps.{ArrayIs, IsKept}
-use Rattle.rssd_run.specs.Step.{IsStep}
+use Rattle.rssd_run.specs.Step.{IsStep, KeepsDie}
 
 -- What a session has: a device; or, after a mount that was refused, a die alone, on which a device would have these numbers;
 -- or nothing, while it mounts.
@@ -51,12 +51,17 @@ ShowsHolding d base Nothing view = ⊥
 abbrev pub Shows : Numbers → SessionValue → View → Type 0
 Shows d session view = ShowsHolding d session.base session.holding view
 
--- From each view that the session stood for, the line and its reply are a step to one that it stands for, over sound cells
--- or with no cut armed.
-abbrev pub StepsSession : Numbers → Line → Reply → SessionValue → SessionValue → Type 0
-StepsSession d line reply old new =
-    (before : View) → Shows d old before → Calm d before.device.die
-    → (after : View) × Shows d new after × IsStep d (record { line = line; reply = reply; before = before; after = after })
+-- Whatever the cells: the session's die keeps its shape and goes on telling its armed failures, no cell's charge falls between
+-- erases of its block, no pad cell is charged, and sound cells stay sound.
+abbrev pub KeepsSession : Numbers → SessionValue → SessionValue → Type 0
+KeepsSession d old new = (die : DieState) → HasDie die old.holding → (after : DieState) × HasDie after new.holding × KeepsDie d die after
+
+-- The session keeps its die. From each view that it stood for, the line and its reply are a step to one that it stands for, over
+-- sound cells or with no cut armed.
+pub record StepsSession (d : Numbers) (line : Line) (reply : Reply) (old new : SessionValue) : Type 0 where
+  pub keeps : KeepsSession d old new
+  pub step : (before : View) → Shows d old before → Calm d before.device.die
+      → (after : View) × Shows d new after × IsStep d (record { line = line; reply = reply; before = before; after = after })
 
 -- a line that may be stepped: one that arms a failure names at least the next call
 abbrev pub CanStep : Line → Type 0

@@ -1,6 +1,7 @@
 -- One line of a session: what may be answered, and what then holds.
 use Rattle.std.specs.Prelude.{◌≡◌, ◌⊎◌, ◌↔◌, ℕ, ◌^◌, ◌<◌, ◌≤◌, List, length}
 use Rattle.cell_die.specs.Counts.{count_sum, Rose}
+use Rattle.cell_die.specs.DieState.{DieState}
 use Rattle.cell_die.specs.Changes.{NeverFalls, SameCells}
 use Rattle.cell_die.specs.Pads.{NoPadCharged}
 use Rattle.page_codec.specs.Geometry.{shape_of}
@@ -11,7 +12,8 @@ use Rattle.rssd_script.specs.declared.lines.Line.TheVariants.{Write, Read, Trim,
 use Rattle.rssd_script.specs.declared.replies.Reply.{Reply}
 use Rattle.rssd_script.specs.declared.replies.Reply.TheVariants.{First, Second, Declined, Moves, Stat as Counts, Range, Long, Off as SaysOff, Fault, Spent, NoSpare, NoMemory}
 use Rattle.rssd_core.specs.SectorArray.{filled_up}
-use Rattle.rssd_core.specs.DeviceValue.{Numbers, DeviceView}
+use Rattle.rssd_core.specs.DeviceValue.{Numbers}
+use Rattle.rssd_core.specs.Failures.{Tells, TellsPower}
 use Rattle.rssd_core.specs.Moves.{ChangesRose, ChangesStayed}
 use Rattle.rssd_core.specs.IdleRule.{NoMoveLeft, moment_of}
 use Rattle.rssd_core.specs.Mount.{EveryBlockLive}
@@ -20,6 +22,7 @@ use Rattle.rssd_run.specs.View.{View, Event, StandsFor, IsOn, IsOff, faults, ACu
 use Rattle.rssd_run.specs.Moves.{BookMoves}
 use Rattle.rssd_run.specs.Placing.{IsTried, PlacedExactly}
 use Rattle.rssd_run.specs.Armed.{ArmedExactly}
+use Rattle.rssd_run.specs.Leaves.{Leaves}
 
 -- ---- refusals
 
@@ -126,12 +129,14 @@ abbrev pub TrueWhileOn : Numbers → View → Type 0
 TrueWhileOn d view = IsOn view.array
     → IsTrueBook d.geometry d.reuse_max view.device.die.cells view.device.book (live_map d.geometry view.device.die.cells) view.device.seq
 
--- the die keeps its shape, no cell's charge falls between erases of its block, no pad cell is charged, and sound cells stay sound
-pub record KeepsDie (d : Numbers) (old new : DeviceView) : Type 0 where
-  pub shape : new.die.shape ≡ old.die.shape
-  pub never_falls : NeverFalls old.die new.die
-  pub no_pad : NoPadCharged (shape_of d.geometry) old.die.cells → NoPadCharged (shape_of d.geometry) new.die.cells
-  pub sound : IsSound d.geometry old.die.cells → IsSound d.geometry new.die.cells
+-- the die keeps its shape, it goes on telling its armed failures, no cell's charge falls between erases of its block, no pad
+-- cell is charged, and sound cells stay sound
+pub record KeepsDie (d : Numbers) (old new : DieState) : Type 0 where
+  pub shape : new.shape ≡ old.shape
+  pub tells : Tells old → Tells new
+  pub never_falls : NeverFalls old new
+  pub no_pad : NoPadCharged (shape_of d.geometry) old.cells → NoPadCharged (shape_of d.geometry) new.cells
+  pub sound : IsSound d.geometry old.cells → IsSound d.geometry new.cells
 
 -- One line, its reply, and the views before and after it.
 pub record IsStep (d : Numbers) (e : Event) : Type 0 where
@@ -140,7 +145,7 @@ pub record IsStep (d : Numbers) (e : Event) : Type 0 where
   pub stands_before : StandsFor d e.before
   pub stands_after : StandsFor d e.after
   pub off : e.reply ≡ Fault → IsCommand e.line → OffExactly e
-  pub keeps : KeepsDie d e.before.device e.after.device
+  pub keeps : KeepsDie d e.before.device.die e.after.device.die
   -- a write is a second, a declined or a first write exactly where its offer and the cells say so
   pub placed : (sector : ℕ) (bytes : List ℕ) → IsTried d e sector bytes → PlacedExactly d e sector (filled_up d.geometry.sector_bytes bytes)
   -- `fault` comes exactly where one armed failure came, and the other answers exactly where they must
@@ -149,5 +154,8 @@ pub record IsStep (d : Numbers) (e : Event) : Type 0 where
   -- the book is true while the session is on, and it moves by rules
   pub true_book : TrueWhileOn d e.after
   pub moves : BookMoves d e e.line e.reply
-  -- armed failures come at the call that was named
+  -- armed failures come at the call that was named, and while the session is on a die that tells them tells that it has power
   pub armed : ArmedExactly d e
+  pub power : IsOn e.after.array → Tells e.after.device.die → TellsPower e.after.device.die
+  -- the next seq and the erase counts rise by what the line's rules draw and erase, and a trim leaves its record
+  pub leaves : Leaves d e e.line e.reply

@@ -14,7 +14,7 @@ use Rattle.rssd_script.specs.declared.lines.Line.TheVariants.{Mount}
 use Rattle.rssd_script.specs.declared.replies.Reply.TheVariants.{Done, Fault, NoSpare, NoMemory}
 use Rattle.page_codec.specs.Geometry.{shape_of}
 use Rattle.rssd_run.specs.Held.{Tallies, tallies_of, on, off, refused, Calm}
-use Rattle.rssd_run.specs.Step.{IsStep}
+use Rattle.rssd_run.specs.Step.{IsStep, KeepsDie}
 
 -- the array of a device that runs, and of one that is stopped
 abbrev pub ArrayIs : Bool → List (List ℕ) → ArrayState → Type 0
@@ -29,10 +29,11 @@ pub record IsKept (d : Numbers) (device : DeviceValue) : Type 0 where
   pub power : device.stopped ≡ false → TellsPower device.view.die
   pub book : TrueWhileRunning d device
 
--- From each view that a running device stood for, the line and its reply are a step to one that it stands for, over sound
--- cells or with no cut armed.
+-- The die is kept whatever its cells. From each view that a running device stood for, the line and its reply are a step to one
+-- that it stands for, over sound cells or with no cut armed.
 pub record Steps (d : Numbers) (line : Line) (reply : Reply) (old new : DeviceValue) : Type 0 where
   pub kept : IsKept d new
+  pub keeps : KeepsDie d old.view.die new.view.die
   pub step : Calm d old.view.die → (base : Tallies) → (array : ArrayState) × ArrayIs new.stopped (rows_of d new.view) array
       × IsStep d (record { line = line; reply = reply; before = on d base old; after = off base new array })
 
@@ -46,6 +47,7 @@ refusal_reply NoSpareError = NoSpare
 -- a mount over this die, from any view with it
 pub record MountDone (d : Numbers) (die : DieState) (new : DeviceValue) : Type 0 where
   pub kept : IsKept d new
+  pub keeps : KeepsDie d die new.view.die
   pub running : new.stopped ≡ false
   pub step : (before : View) → before.device.die ≡ die → StandsFor d before → before.device.moved < 2 ^ 64
       → IsStep d (record { line = Mount; reply = Done; before = before; after = on d (tallies_of before.device) new })
@@ -54,5 +56,6 @@ pub record MountDone (d : Numbers) (die : DieState) (new : DeviceValue) : Type 0
 pub record MountRefused (d : Numbers) (die new : DieState) (why : MountError) : Type 0 where
   pub tells : Tells new
   pub shape : new.shape ≡ die.shape
+  pub keeps : KeepsDie d die new
   pub step : (before : View) → before.device.die ≡ die → StandsFor d before → before.device.first < 2 ^ 64 → before.device.second < 2 ^ 64 → before.device.declined < 2 ^ 64 → before.device.moved < 2 ^ 64
       → IsStep d (record { line = Mount; reply = refusal_reply why; before = before; after = refused before new })

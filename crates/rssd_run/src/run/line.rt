@@ -1,5 +1,6 @@
 //! Lines on a device that runs. Each is one call of it, and a step from every view that it stood for to one that it stands for.
 ghost use Rattle.std.specs.Prelude.{◌≡◌, ◌≤◌, ◌<◌, ◌^◌, ◌↔◌, false, length, None, IfSome, IfNone, IfOk, IfErr};
+ghost use Rattle.cell_die.specs.Calls.{Kept};
 ghost use Rattle.cell_die.specs.DieState.{DieState};
 ghost use Rattle.page_codec.specs.Geometry.{shape_of};
 ghost use Rattle.rssd_core.specs.Failures.{Tells};
@@ -7,6 +8,7 @@ ghost use Rattle.rssd_core.specs.Mount.{numbers_of, Fits};
 ghost use Rattle.rssd_core.specs.SectorArray.{filled_up};
 ghost use Rattle.rssd_run.specs.Armed.{form_of_word};
 ghost use Rattle.rssd_run.specs.Held.{reply_of};
+ghost use Rattle.rssd_run.specs.Step.{KeepsDie};
 ghost use Rattle.rssd_run.specs.Played.{IsPlayed, Answered, AnsweredWrite, AnsweredRead, AnsweredTrim, AnsweredIdle, Plays, PlaysQuiet};
 ghost use Rattle.rssd_run.specs.Shows.{CanStep, IsDeviceLine};
 ghost use Rattle.rssd_run.specs.Steps.{IsKept, Steps, MountDone, MountRefused, refusal_reply as replied};
@@ -163,6 +165,9 @@ pub fn play<D: Die + Drop, C: Scheme + Drop, F: Device<D, C>>(
     ensures nothing { IfNone result (F.device ftl.new ≡ F.device ftl.old) }
     ensures plays { IfSome result (λ reply. Plays (F.device ftl.old).numbers line.now reply (F.device ftl.old) (F.device ftl.new)) }
     ensures quiet { IfSome result (λ reply. PlaysQuiet reply (F.device ftl.old) (F.device ftl.new)) }
+    ensures keeps { IfSome result (λ reply. KeepsDie (F.device ftl.old).numbers (F.device ftl.old).view.die (F.device ftl.new).view.die) }
+    ensures numbers { (F.device ftl.new).numbers ≡ (F.device ftl.old).numbers }
+    ensures kept { Kept (F.device ftl.old).view.die (F.device ftl.new).view.die }
 {
     match line {
         Line::Cut { .. } | Line::FailRead { .. } | Line::Mount | Line::Stat => None,

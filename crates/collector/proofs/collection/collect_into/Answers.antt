@@ -2,7 +2,9 @@
 use Rattle.std.proofs.Common.{◌<◌, ℕ, length, refl, sym, subst}
 use Rattle.cell_die.specs.declared.shape.Shape.{Shape}
 use Rattle.striped.specs.Meaning.{Meaning}
-use Rattle.block_state.specs.Book.{BookValue}
+use Rattle.block_state.specs.Book.{BookValue, state_at}
+use Rattle.collector.specs.Erases.{erased_in}
+use Rattle.collector.proofs.Erasing.{made_erased, torn_erased, ends_then}
 use Rattle.collector.specs.Inside.{Begun, CollectEnds}
 use Rattle.collector.specs.Store.{geometry_of, store, Holds}
 use Rattle.collector.proofs.Clearing.{TornSo, blanked, erase_torn}
@@ -43,3 +45,12 @@ returns-in-Err-clause-ends g c =
     (subst (λ (v : BookValue). TornSo (geometry_of (g.D.Die.state c.args.die.now).shape (g.C.Scheme.meaning c.args.scheme.now) (length c.args.map.now)) (g.C.Scheme.meaning c.args.scheme.now).decoding (store (g.D.Die.state c.args.die.now) c.args.map.now c.args.book.now c.args.seq.now) (store (g.D.Die.state c.blank_spare.new.die) c.args.map.now v c.args.seq.now)) (sym c.in-Err.ensures.same_book)
     (erase_torn (geometry_of (g.D.Die.state c.args.die.now).shape (g.C.Scheme.meaning c.args.scheme.now) (length c.args.map.now)) (g.C.Scheme.meaning c.args.scheme.now).decoding c.args.spare (g.D.Die.state c.args.die.now) (g.D.Die.state c.blank_spare.new.die) c.args.book.now c.args.map.now c.args.seq.now (record { tables = c.requires.tables; shape = shape_is (g.D.Die.state c.args.die.now).shape (g.C.Scheme.meaning c.args.scheme.now) (length c.args.map.now) c.args.work.now c.requires.die c.requires.scheme; shaped = g.met.D.Die.shaped c.args.die.now; is_spare = c.requires.branch.3 }) (g.met.D.Die.shaped c.blank_spare.new.die) c.in-Err.ensures.torn c.in-Err.ensures.only_block c.blank_spare.ensures.kept c.in-Err.ensures.failed))
     c.in-Err.ensures.failed
+
+pub returns-in-Ok-clause-erased : goal.returns-in-Ok-clause-erased
+returns-in-Ok-clause-erased g c =
+    ends_then (erased_in (state_at c.args.book.now c.args.spare) c.args.spare) c.copy_sealed.result (g.D.Die.state c.args.die.now) (g.D.Die.state c.blank_spare.new.die) (g.D.Die.state c.copy_sealed.new.die)
+    (made_erased c.args.spare (g.D.Die.state c.args.die.now) (g.D.Die.state c.blank_spare.new.die) c.args.book.now c.blank_spare.new.book c.in-Ok.ensures.blank) c.copy_sealed.ensures.same_erases
+
+pub returns-in-Err-clause-erased : goal.returns-in-Err-clause-erased
+returns-in-Err-clause-erased g c =
+    torn_erased c.args.spare (g.D.Die.state c.args.die.now) (g.D.Die.state c.blank_spare.new.die) c.args.book.now c.in-Err.ensures.not_blank c.in-Err.ensures.torn c.in-Err.ensures.only_block c.in-Err.ensures.failed

@@ -1,6 +1,7 @@
 -- The page that was scanned last has the first record that the map names, or none, and then the search goes on.
 use Rattle.std.proofs.Common.{Some, None, sym, ◌∙◌, arith, rules}
-use Rattle.collector.proofs.Search.{seen_of, one_seen, first_found, searched_more, searched_passed, none_is}
+use Rattle.std.proofs.lemmas.Result.{err_from_is_err_and}
+use Rattle.collector.proofs.Search.{seen_of, one_seen, first_found, searched_more, searched_passed, searched_failed, none_is}
 use Rattle.collector.proofs.live.find_first.Goals as goal
 
 pub returns-in-Some-clause-found : goal.returns-in-Some-clause-found
@@ -17,6 +18,12 @@ returns-in-Some-clause-passed g c =
     let first = one_seen c.args.map.now c.args.work.now.page_bytes c.args.work.now.generations c.loop-page.page (g.D.Die.state c.loop-page.die) c.in-Some.live c.requires.slots.0 c.requires.slots.1 seen in
     searched_passed c.args.map.now c.args.work.now (g.D.Die.state c.args.die.now) (g.D.Die.state c.loop-page.die) (g.D.Die.state c.scan.new.die) c.args.from c.loop-page.page c.in-Some.live.place.page (omega arith) first.page_is
     c.loop-page.invariant.searched c.in_ok-seen.ensures.passed
+
+pub returns-in_err-seen-clause-failed : goal.returns-in_err-seen-clause-failed
+returns-in_err-seen-clause-failed g c =
+    let q = err_from_is_err_and c.from_residual.result c.from_residual.ensures.1 in
+    rw q.1 (searched_failed c.args.map.now c.args.work.now (g.D.Die.state c.args.die.now) (g.D.Die.state c.loop-page.die) (g.D.Die.state c.scan.new.die) c.args.from c.args.pages c.loop-page.page (omega arith)
+    c.loop-page.invariant.searched c.in_err-seen.ensures.failed)
 
 pub loop-page-preserved : goal.loop-page-preserved
 loop-page-preserved g c =

@@ -16,6 +16,7 @@ loop-i-init g c = record {
       (reached_start (geometry_of (g.D.Die.state c.args.die.now).shape (g.C.Scheme.meaning c.args.scheme.now) (length c.args.map.now)) (g.C.Scheme.meaning c.args.scheme.now) c.args.victim c.args.spare (store (g.D.Die.state c.args.die.now) c.args.map.now c.args.book.now c.args.seq.now) c.requires.begun c.args.moves.now);
   kept = kept_refl (g.D.Die.state c.args.die.now);
   scheme = refl;
+  erases = refl;
   work = refl;
   long = refl;
   pages = (c.pages-pages.ensures.value ∙ c.requires.begun.tables.sizes.pages);
@@ -40,6 +41,7 @@ loop-i-preserved g c = record {
       (moved_back (λ (s : Shape) (m : Meaning). EndsAt s m (length c.args.map.now) c.args.spare (store (g.D.Die.state c.args.die.now) c.args.map.now c.args.book.now c.args.seq.now) (store (g.D.Die.state c.copy_page.new.die) c.args.map.now c.copy_page.new.book c.copy_page.new.seq) (c.args.victim * c.pages-pages.result + c.loop-i.i) m.generations c.copy_page.new.moves (Ok c.in-Ok.more)) (g.D.Die.state c.args.die.now).shape (g.D.Die.state c.loop-i.die).shape (g.C.Scheme.meaning c.args.scheme.now) (g.C.Scheme.meaning c.loop-i.scheme) c.loop-i.invariant.kept.shape c.loop-i.invariant.scheme (c.in-Ok.ensures.ends (store (g.D.Die.state c.args.die.now) c.args.map.now c.args.book.now c.args.seq.now) (moved_to (λ (s : Shape) (m : Meaning). Stands (geometry_of s m (length c.args.map.now)) m c.args.spare (store (g.D.Die.state c.args.die.now) c.args.map.now c.args.book.now c.args.seq.now) (store (g.D.Die.state c.loop-i.die) c.args.map.now c.loop-i.book c.loop-i.seq) (first_slot (c.args.victim * c.pages-pages.result + c.loop-i.i)) ((c.args.victim * c.pages-pages.result + c.loop-i.i) % s.pages) c.loop-i.copies c.loop-i.moves) (g.D.Die.state c.args.die.now).shape (g.D.Die.state c.loop-i.die).shape (g.C.Scheme.meaning c.args.scheme.now) (g.C.Scheme.meaning c.loop-i.scheme) c.loop-i.invariant.kept.shape c.loop-i.invariant.scheme (page_before (geometry_of (g.D.Die.state c.args.die.now).shape (g.C.Scheme.meaning c.args.scheme.now) (length c.args.map.now)) (g.C.Scheme.meaning c.args.scheme.now) c.args.victim c.args.spare (store (g.D.Die.state c.args.die.now) c.args.map.now c.args.book.now c.args.seq.now) c.loop-i.i (c.args.victim * c.pages-pages.result + c.loop-i.i) (ap (λ (k : ℕ). c.args.victim * k + c.loop-i.i) (c.pages-pages.ensures.value ∙ c.requires.begun.tables.sizes.pages)) (omega (arith, c.loop-i-test.true, (c.pages-pages.ensures.value ∙ c.requires.begun.tables.sizes.pages))) (store (g.D.Die.state c.loop-i.die) c.args.map.now c.loop-i.book c.loop-i.seq) c.loop-i.copies c.loop-i.moves c.requires.begun c.loop-i.invariant.reached (omega (arith, c.requires.room, c.loop-i.invariant.long)) refl (c.requires.scheme.page_bytes ∙ sym c.requires.die.main_bytes)))));
   kept = kept_trans c.loop-i.invariant.kept c.copy_page.ensures.kept;
   scheme = c.copy_page.ensures.same_scheme ∙ c.loop-i.invariant.scheme;
+  erases = c.copy_page.ensures.same_erases ∙ c.loop-i.invariant.erases;
   work = c.copy_page.ensures.same_work ∙ c.loop-i.invariant.work;
   long = c.copy_page.auto.moves ∙ c.loop-i.invariant.long;
   pages = c.loop-i.invariant.pages;

@@ -12,6 +12,7 @@ invariant-loop-i g l = record {
       (l.i * (g.C.Scheme.meaning l.fn.scheme).generations) l.i l.copies l.moves;
   kept : Kept (g.D.Die.state l.fn.die) (g.D.Die.state l.die);
   scheme : g.C.Scheme.meaning l.scheme ≡ g.C.Scheme.meaning l.fn.scheme;
+  erases : (g.D.Die.state l.die).erases ≡ (g.D.Die.state l.fn.die).erases;
   work : l.work ≡ l.fn.work;
   long : length l.moves ≡ length l.fn.moves;
   pages : l.pages ≡ (g.D.Die.state l.fn.die).shape.pages;

@@ -5,7 +5,9 @@ use Rattle.rssd_script.specs.declared.lines.Line.TheVariants.{Write, Read, Trim,
 use Rattle.rssd_script.specs.declared.lines.TornWord.{TornWord}
 use Rattle.rssd_core.specs.DeviceValue.{DeviceValue}
 use Rattle.rssd_run.specs.Played.{IsPlayed}
-use Rattle.rssd_run.proofs.Answered.{answered_plays, answered_quiet, stopped_plays}
+use Rattle.rssd_run.proofs.Answered.{answered_plays, answered_quiet, answered_keeps, stopped_plays}
+use Rattle.rssd_run.proofs.Parts.{keeps_none}
+use Rattle.rssd_run.proofs.AnsweredKept.{answered_built}
 use Rattle.rssd_run.proofs.run.line.play.Goals as goal
 
 -- a line that is none of the session's is played
@@ -36,3 +38,26 @@ returns-else-stopped-clause-quiet g c =
     let old : DeviceValue = g.F.Device.device c.args.ftl.now in
     let new : DeviceValue = g.F.Device.device c.play_line.new.ftl in
     answered_quiet old.numbers old new c.args.line.now c.play_line.result c.play_line.ensures
+
+pub returns-then-stopped-clause-keeps : goal.returns-then-stopped-clause-keeps
+returns-then-stopped-clause-keeps g c =
+    let old : DeviceValue = g.F.Device.device c.args.ftl.now in
+    keeps_none old.numbers old.view.die
+
+pub returns-else-stopped-clause-keeps : goal.returns-else-stopped-clause-keeps
+returns-else-stopped-clause-keeps g c =
+    let old : DeviceValue = g.F.Device.device c.args.ftl.now in
+    let new : DeviceValue = g.F.Device.device c.play_line.new.ftl in
+    answered_keeps old.numbers old new c.args.line.now c.play_line.result c.play_line.ensures
+
+pub returns-else-stopped-clause-numbers : goal.returns-else-stopped-clause-numbers
+returns-else-stopped-clause-numbers g c =
+    let old : DeviceValue = g.F.Device.device c.args.ftl.now in
+    let new : DeviceValue = g.F.Device.device c.play_line.new.ftl in
+    (answered_built old.numbers old new c.args.line.now c.play_line.result c.play_line.ensures).numbers
+
+pub returns-else-stopped-clause-kept : goal.returns-else-stopped-clause-kept
+returns-else-stopped-clause-kept g c =
+    let old : DeviceValue = g.F.Device.device c.args.ftl.now in
+    let new : DeviceValue = g.F.Device.device c.play_line.new.ftl in
+    (answered_built old.numbers old new c.args.line.now c.play_line.result c.play_line.ensures).kept

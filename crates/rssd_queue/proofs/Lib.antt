@@ -1,0 +1,11 @@
+pub mod Taken
+pub mod Orders
+pub mod Rows
+pub mod InTime
+pub mod Nodes
+pub mod UnusedOrder
+pub mod Turning
+pub mod FreeReads
+pub mod Tags
+pub mod Fields
+pub mod Filters
