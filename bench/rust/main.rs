@@ -1,6 +1,10 @@
 //! The kernels of `crates/bench_kernels` in plain Rust, on the same rows: both print the same line for
 //! the same words, so that a time is only ever compared with that of the same work.
 
+#[allow(dead_code, unused_assignments)]
+mod bits;
+#[allow(dead_code, unused_assignments)]
+mod codes;
 mod cosets;
 mod rows;
 mod scripts;
@@ -19,26 +23,28 @@ impl SplitMix64 {
     }
 }
 
-fn main() {
-    let words: Vec<String> = std::env::args().skip(1).collect();
-    let kernel = words[0].as_str();
-    let size: usize = words[1].parse().unwrap();
-    let rounds: usize = words[2].parse().unwrap();
-    if kernel == "script" {
-        return print!("{}", scripts::write_lines(size));
-    }
-    let sum = match kernel {
+/// The checksum of so many rounds of a kernel over rows, chunks or lines of a size.
+fn checksum(kernel: &str, size: usize, rounds: usize) -> u64 {
+    match kernel {
         "above" => rows::above(size, rounds),
         "blank" => rows::blank(size, rounds),
         "charged" => rows::charged(size, rounds),
         "cells" => cosets::cells(size as u64, rounds),
         "over" => cosets::over(size as u64, rounds),
         "decode" => cosets::decode(size as u64, rounds),
-        "first" => sectors::first(size, rounds),
-        "second" => sectors::second(size, rounds),
-        "read" => sectors::read(size, rounds),
         "parse" => scripts::parsed(size, rounds),
         _ => panic!("no kernel {kernel}"),
+    }
+}
+
+fn main() {
+    let words: Vec<String> = std::env::args().skip(1).collect();
+    let kernel = words[0].as_str();
+    let rounds: usize = words[2].parse().unwrap();
+    let sum = match kernel {
+        "script" => return print!("{}", scripts::write_lines(words[1].parse().unwrap())),
+        "first" | "second" | "read" => sectors::scheme_rounds(&words[1], kernel, rounds),
+        _ => checksum(kernel, words[1].parse().unwrap(), rounds),
     };
     println!("{kernel} {sum}");
 }

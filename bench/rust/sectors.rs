@@ -1,131 +1,104 @@
-//! Sectors of 512 bytes by tables: eight bits in twelve cells, and four bits over six old cells.
+//! Sectors of 512 bytes in a scheme, by the unverified kernels of `codes`: 64 random sectors, and 64 units whose pages have
+//! first writes of random sectors. A round goes once over all of them.
 
-const MESSAGE: [u16; 8] = [0, 2, 1, 3, 3, 1, 2, 0];
-const NONE: u16 = 8;
-const NEXT: [[u16; 8]; 4] = [
-    [0, 7, 7, 7, 7, 7, 7, 7],
-    [2, 5, 2, 8, 5, 5, 8, 8],
-    [1, 1, 6, 8, 6, 8, 6, 8],
-    [4, 3, 3, 3, 4, 8, 8, 8],
-];
-const DECLINED: u8 = 0xff;
+use crate::SplitMix64;
+use crate::codes::{CosetScheme, Ham, Rs, Scheme};
 
-struct Tables {
-    first: Vec<u16>,
-    second: Vec<u8>,
-    read: Vec<u8>,
-}
+/// How many sectors and how many units.
+const COUNT: usize = 64;
 
-fn first_of(byte: usize) -> u16 {
-    (0..4).map(|i| NEXT[byte >> (2 * i) & 3][0] << (3 * i)).sum()
-}
+/// Bytes behind each row that a kernel may read or write with a whole vector.
+const SLACK: usize = 16;
 
-fn read_of(cells: usize) -> u8 {
-    (0..4).map(|i| (MESSAGE[cells >> (3 * i) & 7] << (2 * i)) as u8).sum()
-}
-
-/// Four bits over six cells, at `16 * cells + bits`.
-fn second_of(place: usize) -> u8 {
-    let (cells, bits) = (place / 16, place % 16);
-    let low = NEXT[bits & 3][cells & 7];
-    let high = NEXT[bits >> 2][cells >> 3];
-    if low == NONE || high == NONE {
-        DECLINED
-    } else {
-        (low | high << 3) as u8
+fn fill_at_random(random: &mut SplitMix64, row: &mut [u8]) {
+    for byte in row {
+        *byte = (random.next_word() % 256) as u8;
     }
 }
 
-impl Tables {
-    fn new() -> Tables {
-        Tables {
-            first: (0..256).map(first_of).collect(),
-            second: (0..1024).map(second_of).collect(),
-            read: (0..4096).map(read_of).collect(),
+/// Rows of so many random bytes, each with its slack.
+fn random_rows(random: &mut SplitMix64, bytes: usize) -> Vec<Vec<u8>> {
+    let mut rows = vec![vec![0; bytes + SLACK]; COUNT];
+    for row in &mut rows {
+        fill_at_random(random, &mut row[..bytes]);
+    }
+    rows
+}
+
+/// Units each page of which has the first write of a random sector.
+fn written_units<S: Scheme>(random: &mut SplitMix64, scheme: &S) -> Vec<Vec<u8>> {
+    let mut units = vec![vec![0; S::PAGE * S::SPAN + SLACK]; COUNT];
+    let mut sector = vec![0; S::SECTOR + SLACK];
+    for unit in &mut units {
+        for page in 0..S::SPAN {
+            fill_at_random(random, &mut sector[..S::SECTOR]);
+            scheme.first(&sector, &mut unit[page * S::PAGE..]);
         }
     }
+    units
+}
 
-    #[inline(never)]
-    fn first(&self, sector: &[u8], page: &mut [u8]) {
-        for (bytes, cells) in sector.chunks_exact(2).zip(page.chunks_exact_mut(3)) {
-            let low = self.first[bytes[0] as usize] as u32;
-            let high = self.first[bytes[1] as usize] as u32;
-            cells.copy_from_slice(&(low | high << 12).to_le_bytes()[..3]);
+fn first_rounds<S: Scheme>(scheme: &S, sectors: &[Vec<u8>], rounds: usize) -> u64 {
+    let mut page = vec![0; S::PAGE + SLACK];
+    let mut sum = 0u64;
+    for round in 0..rounds {
+        for sector in sectors {
+            scheme.first(sector, &mut page);
+            sum = sum.wrapping_add(u64::from(page[round % S::MAIN]));
         }
     }
+    sum
+}
 
-    #[inline(never)]
-    fn over(&self, unit: &mut [u8], copy: &mut [u8], sector: &[u8]) -> bool {
-        copy.copy_from_slice(unit);
-        for (cells, bytes) in copy.chunks_exact_mut(3).zip(sector.chunks_exact(2)) {
-            let old = u32::from_le_bytes([cells[0], cells[1], cells[2], 0]) as usize;
-            let bits = u16::from_le_bytes([bytes[0], bytes[1]]) as usize;
-            let mut new = 0;
-            for i in 0..4 {
-                let six = self.second[16 * (old >> (6 * i) & 63) + (bits >> (4 * i) & 15)];
-                if six == DECLINED {
-                    return false;
-                }
-                new |= (six as u32) << (6 * i);
+/// The byte at this place of the main bytes of a unit's pages, one page after the other.
+fn main_byte<S: Scheme>(unit: &[u8], place: usize) -> u64 {
+    u64::from(unit[place / S::MAIN * S::PAGE + place % S::MAIN])
+}
+
+fn over_rounds<S: Scheme>(scheme: &mut S, sectors: &[Vec<u8>], units: &[Vec<u8>], rounds: usize) -> u64 {
+    let mut out = vec![0; S::PAGE * S::SPAN + SLACK];
+    let mut sum = 0u64;
+    for round in 0..rounds {
+        for (sector, unit) in sectors.iter().zip(units) {
+            if scheme.over(unit, sector, &mut out) {
+                sum = sum.wrapping_add(main_byte::<S>(&out, round % (S::SPAN * S::MAIN)));
             }
-            cells.copy_from_slice(&new.to_le_bytes()[..3]);
-        }
-        unit.copy_from_slice(copy);
-        true
-    }
-
-    #[inline(never)]
-    fn read(&self, page: &[u8], sector: &mut [u8]) {
-        for (cells, bytes) in page.chunks_exact(3).zip(sector.chunks_exact_mut(2)) {
-            let all = u32::from_le_bytes([cells[0], cells[1], cells[2], 0]) as usize;
-            bytes[0] = self.read[all & 4095];
-            bytes[1] = self.read[all >> 12];
-        }
-    }
-}
-
-pub fn first(bytes: usize, rounds: usize) -> u64 {
-    let tables = Tables::new();
-    let mut sector = vec![0xa5u8; bytes];
-    let mut page = vec![0; bytes / 2 * 3];
-    let mut sum = 0;
-    for round in 0..rounds {
-        let at = round % sector.len();
-        sector[at] = sector[at].wrapping_add(0x35);
-        tables.first(&sector, &mut page);
-        sum += page[round % page.len()] as u64;
-    }
-    sum
-}
-
-pub fn second(bytes: usize, rounds: usize) -> u64 {
-    let tables = Tables::new();
-    let mut sector = vec![0xa5u8; bytes];
-    let mut page = vec![0; bytes / 2 * 3];
-    let (mut unit, mut copy) = (page.clone(), page.clone());
-    tables.first(&sector, &mut page);
-    let mut sum = 0;
-    for round in 0..rounds {
-        let at = round % sector.len();
-        sector[at] = sector[at].wrapping_add(0x35);
-        unit.copy_from_slice(&page);
-        if tables.over(&mut unit, &mut copy, &sector) {
-            sum += unit[round % unit.len()] as u64;
         }
     }
     sum
 }
 
-pub fn read(bytes: usize, rounds: usize) -> u64 {
-    let tables = Tables::new();
-    let mut page = vec![0xa5u8; bytes / 2 * 3];
-    let mut sector = vec![0; bytes];
-    let mut sum = 0;
+fn read_rounds<S: Scheme>(scheme: &S, units: &[Vec<u8>], rounds: usize) -> u64 {
+    let mut sector = vec![0; S::SECTOR + SLACK];
+    let mut sum = 0u64;
     for round in 0..rounds {
-        let at = round % page.len();
-        page[at] = page[at].wrapping_add(0x35);
-        tables.read(&page, &mut sector);
-        sum += sector[round % sector.len()] as u64;
+        for unit in units {
+            scheme.read_first(unit, &mut sector);
+            sum = sum.wrapping_add(u64::from(sector[round % S::SECTOR]));
+        }
     }
     sum
+}
+
+fn rounds_of<S: Scheme>(kernel: &str, rounds: usize) -> u64 {
+    let mut scheme = S::new();
+    let mut random = SplitMix64(7);
+    let sectors = random_rows(&mut random, S::SECTOR);
+    let units = written_units(&mut random, &scheme);
+    match kernel {
+        "first" => first_rounds(&scheme, &sectors, rounds),
+        "second" => over_rounds(&mut scheme, &sectors, &units, rounds),
+        _ => read_rounds(&scheme, &units, rounds),
+    }
+}
+
+/// The rounds of one scheme of 512 bytes.
+pub fn scheme_rounds(name: &str, kernel: &str, rounds: usize) -> u64 {
+    match name {
+        "rs512" => rounds_of::<Rs<512>>(kernel, rounds),
+        "ham512" => rounds_of::<Ham<512>>(kernel, rounds),
+        "coset512" => rounds_of::<CosetScheme<512, false>>(kernel, rounds),
+        "flip512" => rounds_of::<CosetScheme<512, true>>(kernel, rounds),
+        _ => panic!("no scheme {name}"),
+    }
 }

@@ -34,7 +34,7 @@ none_of_eight f none k lt =
     ap f (sym here) ∙ any_none f (range_with_len 0 8) none k (omega (arith, length-range_with_len 0 8))
 
 -- each byte passed the test
-at_index : (shape : Shape) (from : ℕ) (cells : List ℕ) (i : ℕ) → is_pad_charged_from shape from cells ≡ false → i < length cells →
+pub at_index : (shape : Shape) (from : ℕ) (cells : List ℕ) (i : ℕ) → is_pad_charged_from shape from cells ≡ false → i < length cells →
     is_pad_charged_in shape (from + i) (get_or cells i 0) ≡ false
 at_index shape from [] i e lt = absurd (omega arith)
 at_index shape from (byte ∷ cells) zero e lt = rw add-zero (or_parts (is_pad_charged_in shape from byte) (is_pad_charged_from shape (suc from) cells) e).0
@@ -102,7 +102,7 @@ no_test_met f h =
     rw (h 0 (lit< tt), h 1 (lit< tt), h 2 (lit< tt), h 3 (lit< tt), h 4 (lit< tt), h 5 (lit< tt), h 6 (lit< tt), h 7 (lit< tt)) refl
 
 -- each byte passes the test
-none_from : (shape : Shape) (from : ℕ) (cells : List ℕ) → ((i : ℕ) → i < length cells → is_pad_charged_in shape (from + i) (get_or cells i 0) ≡ false) →
+pub none_from : (shape : Shape) (from : ℕ) (cells : List ℕ) → ((i : ℕ) → i < length cells → is_pad_charged_in shape (from + i) (get_or cells i 0) ≡ false) →
     is_pad_charged_from shape from cells ≡ false
 none_from shape from [] each = refl
 none_from shape from (byte ∷ cells) each =
@@ -134,3 +134,17 @@ none_in shape cells none index =
 
 pub none_charged : (shape : Shape) (cells : List ℕ) → NoneCharged shape cells → is_pad_charged shape cells ≡ false
 none_charged shape cells none = none_from shape 0 cells (λ i lt. rw zero-add (none_in shape cells none i))
+
+-- a charged pad cell somewhere is one that the test of all cells finds
+pub charged_somewhere : (shape : Shape) (cells : List ℕ) (index : ℕ) → index < length cells → is_pad_charged_in shape index (get_or cells index 0) ≡ true →
+    is_pad_charged shape cells ≡ true
+charged_somewhere shape cells index lt charged = by (is_pad_charged shape cells) refl
+  where
+    by : (b : Bool) → is_pad_charged shape cells ≡ b → b ≡ true
+    by true e = refl
+    by false e = sym (rw zero-add at (at_index shape 0 cells index e lt)) ∙ charged
+
+-- where each byte passes, none is charged
+pub clean_everywhere : (shape : Shape) (cells : List ℕ) → ((i : ℕ) → i < length cells → is_pad_charged_in shape i (get_or cells i 0) ≡ false) →
+    is_pad_charged shape cells ≡ false
+clean_everywhere shape cells each = none_from shape 0 cells (λ i lt. rw zero-add (each i lt))

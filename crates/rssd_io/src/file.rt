@@ -1,109 +1,103 @@
-//! Files as sources and sinks: a file is opened at the first take and created at the first give, and each error counts as
-//! a fault.
-ghost use Rattle.std.specs.Prelude.{◌≡◌, ℕ, None};
-ghost use Rattle.std.specs.Io.{ReadsAtMost};
+//! Files as sources and sinks: a file is opened at the first take, and a new one is written at the gives and put in its place at
+//! the flush. Each error is on record.
+ghost use Rattle.std.specs.Prelude.{◌≡◌, ◌++◌, [], None};
+ghost use Rattle.rssd_io.specs.Files.{opened_log, opened_left, placed_log};
 
-use crate::standard::write_whole;
-use crate::{ReadFault, Sink, Source, WriteFault};
-use std::fs;
-use std::io::Read;
+use crate::opener::Opener;
+use crate::standard::Place;
+use crate::{ReadFault, Sink, Source, StdSink, StdSource, WriteFault};
 use std::rt::Files;
 
-/// A file as a source. A file that cannot be opened is a fault.
+/// A file as a source. A file that cannot be opened is a failure.
 #[derive(Drop)]
 pub struct FileSource<'a, R: Files> {
-    rt: &'a R,
-    name: &'a str,
-    file: Option<R::File>,
-    faults: u64,
+    opener: Opener<'a, R>,
+    opened: Option<StdSource<R::File>>,
 }
 
 impl<'a, R: Files> FileSource<'a, R> {
     /// The file of this name, which is not opened yet.
-    pub fn new(rt: &'a R, name: &'a str) -> FileSource<'a, R> {
-        FileSource {
-            rt,
-            name,
-            file: None,
-            faults: 0,
-        }
-    }
-
-    fn try_take(&mut self, into: &mut [u8]) -> std::io::Result<usize>
-        ensures bound { ReadsAtMost result into.new }
-        ensures same_faults { self.new.faults ≡ self.old.faults }
+    pub fn new(rt: &'a R, name: &'a str) -> FileSource<'a, R>
+        ensures { result.opener.log.events ++ opened_log result.opened ≡ [] }
     {
-        if let Some(file) = &mut self.file {
-            return file.read(into);
+        FileSource {
+            opener: Opener::new(rt, name),
+            opened: None,
         }
-        let mut file = fs::open(self.rt, self.name)?;
-        let count = file.read(into);
-        self.file = Some(file);
-        count
     }
 }
 
 impl<'a, R: Files> Source for FileSource<'a, R> {
-    ghost left = { λ _. None };
+    ghost log = { λ s. s.opener.log.events ++ opened_log s.opened };
 
-    ghost faults = { λ s. s.faults };
+    ghost left = { λ s. opened_left R.File.remaining s.opened };
 
     fn take(&mut self, into: &mut [u8]) -> Result<usize, ReadFault> {
-        match self.try_take(into) {
-            Ok(count) => Ok(count),
-            Err(_) => {
-                self.faults = self.faults.saturating_add(1);
-                Err(ReadFault)
-            }
+        if let Some(source) = &mut self.opened {
+            return source.take(into);
         }
+        let file = self.opener.open()?;
+        let mut source = StdSource::new(file);
+        let taken = source.take(into);
+        self.opened = Some(source);
+        taken
     }
 }
 
-/// A file as a sink. A file that cannot be created is a fault.
+/// A file as a sink. What is given is written to a new file beside the one of this name, and takes its place, synced and in one
+/// step, at the flush: until then, and where a call fails or the program is killed, the file of this name is as it was. After a
+/// failure every call fails.
 #[derive(Drop)]
 pub struct FileSink<'a, R: Files> {
-    rt: &'a R,
-    name: &'a str,
-    file: Option<R::File>,
-    faults: u64,
+    place: Place<'a, R>,
+    written: Option<StdSink<R::File>>,
 }
 
 impl<'a, R: Files> FileSink<'a, R> {
-    /// The file of this name, which is not created yet.
-    pub fn new(rt: &'a R, name: &'a str) -> FileSink<'a, R> {
-        FileSink {
-            rt,
-            name,
-            file: None,
-            faults: 0,
-        }
-    }
-
-    fn try_give(&mut self, piece: &[u8]) -> Result<(), WriteFault>
-        ensures same_faults { self.new.faults ≡ self.old.faults }
+    /// The file of this name, for which nothing is written yet.
+    pub fn new(rt: &'a R, name: &'a str) -> FileSink<'a, R>
+        ensures { placed_log result.place.log.events result.written ≡ [] }
     {
-        if let Some(file) = &mut self.file {
-            return write_whole(file, piece);
+        FileSink {
+            place: Place::new(rt, name),
+            written: None,
         }
-        let Ok(mut file) = fs::create(self.rt, self.name) else {
-            return Err(WriteFault);
-        };
-        let outcome = write_whole(&mut file, piece);
-        self.file = Some(file);
-        outcome
     }
 }
 
 impl<'a, R: Files> Sink for FileSink<'a, R> {
+    ghost use Rattle.std.specs.Prelude.{◌≡◌, false, None, OnOk, OnErr};
+    ghost use Rattle.std.specs.Io.KnownBytes.{Appends, Keeps};
+    ghost use Rattle.rssd_io.specs.Event.{Gave, Flushed};
+    ghost use Rattle.rssd_io.specs.Faults.{AppendsFront};
+    ghost use Rattle.rssd_io.specs.Files.{placed_log};
+
+    ghost log = { λ s. placed_log s.place.log.events s.written };
+
     ghost written = { λ _. None };
 
-    ghost faults = { λ s. s.faults };
-
     fn give(&mut self, piece: &[u8]) -> Result<(), WriteFault> {
-        let outcome = self.try_give(piece);
-        if outcome.is_err() {
-            self.faults = self.faults.saturating_add(1);
+        let mut sink = match self.written.take() {
+            Some(sink) => sink,
+            None => self.place.create()?,
+        };
+        let given = sink.give(piece);
+        match given {
+            Ok(()) => self.written = Some(sink),
+            Err(_) => self.place.give_up(sink),
         }
-        outcome
+        given
+    }
+
+    fn flush(&mut self) -> Result<(), WriteFault>
+        ensures log { Flushed result (placed_log self.old.place.log.events self.old.written) (placed_log self.new.place.log.events self.new.written) }
+        ensures same { Keeps None None }
+        // All that was written is in its place, and nothing of it was lost.
+        ensures placed { OnOk result ((self.new.written ≡ None) × (self.new.place.is_lost ≡ false)) }
+    {
+        match self.written.take() {
+            Some(sink) => self.place.put(sink),
+            None => self.place.keep(),
+        }
     }
 }

@@ -1,7 +1,9 @@
 //! Sources and sinks in memory. A call fails exactly where its number, counted from 1, is listed, and a sink also where a
 //! piece does not fit its room; such a call moves no byte.
 ghost use Rattle.std.specs.Prelude.{◌≡◌, ◌≤◌, [], Some, min, take, length, IfOk, vec_capacity};
+ghost use Rattle.rssd_io.specs.Event.{bytes_of};
 
+use crate::log::Log;
 use crate::{ReadFault, Sink, Source, WriteFault};
 use std::alloc::{AllocError, Global};
 
@@ -12,17 +14,17 @@ pub struct MemSource {
     at: usize,
     fail_at: Vec<u64>,
     calls: u64,
-    faults: u64,
+    log: Log,
     ghost within: { at ≤ length bytes.items },
 }
 
 impl MemSource {
-    ghost use Rattle.rssd_io.specs.Memory.{source_left, source_faults, source_calls, source_fail_at};
+    ghost use Rattle.rssd_io.specs.Memory.{source_left, source_log, source_calls, source_fail_at};
 
     /// A source that was not called yet.
     pub fn new(bytes: Vec<u8>, fail_at: Vec<u64>) -> MemSource
         ensures left { source_left result ≡ bytes.items }
-        ensures faults { source_faults result ≡ 0 }
+        ensures log { source_log result ≡ [] }
         ensures calls { source_calls result ≡ 0 }
         ensures fail_at { source_fail_at result ≡ fail_at.items }
     {
@@ -31,7 +33,7 @@ impl MemSource {
             at: 0,
             fail_at,
             calls: 0,
-            faults: 0,
+            log: Log::new(),
         }
     }
 }
@@ -47,20 +49,22 @@ fn copy_front(from: &[u8], into: &mut [u8]) -> usize
 }
 
 impl Source for MemSource {
-    ghost use Rattle.std.specs.Prelude.{◌≡◌, ◌↔◌, Some, min, length, Contains, IsErr, IfOk};
+    ghost use Rattle.std.specs.Prelude.{◌≡◌, ◌↔◌, ◌<◌, Some, min, length, Contains, IsErr, IfOk};
     ghost use Rattle.std.specs.Io.{ReadsAtMost};
     ghost use Rattle.std.specs.Io.KnownBytes.{ReadConsumes};
-    ghost use Rattle.rssd_io.specs.Faults.{HasCause, raised};
-    ghost use Rattle.rssd_io.specs.Memory.{source_left, source_faults, source_calls, source_fail_at};
+    ghost use Rattle.rssd_io.specs.Event.{Adds, took};
+    ghost use Rattle.rssd_io.specs.Faults.{raised};
+    ghost use Rattle.rssd_io.specs.Memory.{source_left, source_log, source_calls, source_fail_at};
+
+    ghost log = { source_log };
 
     ghost left = { λ s. Some (source_left s) };
 
-    ghost faults = { source_faults };
-
     fn take(&mut self, into: &mut [u8]) -> Result<usize, ReadFault>
+        requires { 0 < length into.old }
         ensures bound { ReadsAtMost result into.new }
         ensures bytes { ReadConsumes (Some (source_left self.old)) (Some (source_left self.new)) result into.new }
-        ensures cause { HasCause (source_faults self.old) (source_faults self.new) result }
+        ensures log { Adds (took result into.new) (source_log self.old) (source_log self.new) }
         // Which calls fail, and how much each other call takes.
         ensures listed { IsErr result ↔ Contains (source_fail_at self.old) (source_calls self.new) }
         ensures counted { source_calls self.new ≡ raised (source_calls self.old) }
@@ -69,10 +73,11 @@ impl Source for MemSource {
     {
         self.calls = self.calls.saturating_add(1);
         if self.fail_at.contains(&self.calls) {
-            self.faults = self.faults.saturating_add(1);
+            self.log.note_failure();
             return Err(ReadFault);
         }
         let count = copy_front(&self.bytes[self.at..], into);
+        self.log.note(&into[..count]);
         self.at += count;
         Ok(count)
     }
@@ -83,6 +88,7 @@ impl Source for MemSource {
 pub struct HonestSource {
     bytes: Vec<u8>,
     at: usize,
+    log: Log,
     ghost within: { at ≤ length bytes.items },
 }
 
@@ -93,29 +99,35 @@ impl HonestSource {
     pub fn new(bytes: Vec<u8>) -> HonestSource
         ensures { honest_left result ≡ bytes.items }
     {
-        HonestSource { bytes, at: 0 }
+        HonestSource {
+            bytes,
+            at: 0,
+            log: Log::new(),
+        }
     }
 }
 
 impl Source for HonestSource {
-    ghost use Rattle.std.specs.Prelude.{◌≡◌, Some, min, length, IsOk, IfOk};
+    ghost use Rattle.std.specs.Prelude.{◌≡◌, ◌<◌, Some, min, length, IsOk, IfOk};
     ghost use Rattle.std.specs.Io.{ReadsAtMost};
     ghost use Rattle.std.specs.Io.KnownBytes.{ReadConsumes};
-    ghost use Rattle.rssd_io.specs.Faults.{HasCause};
+    ghost use Rattle.rssd_io.specs.Event.{Adds, took};
     ghost use Rattle.rssd_io.specs.Memory.{honest_left};
+
+    ghost log = { λ s. s.log.events };
 
     ghost left = { λ s. Some (honest_left s) };
 
-    ghost faults = { λ _. 0 };
-
     fn take(&mut self, into: &mut [u8]) -> Result<usize, ReadFault>
+        requires { 0 < length into.old }
         ensures bound { ReadsAtMost result into.new }
         ensures bytes { ReadConsumes (Some (honest_left self.old)) (Some (honest_left self.new)) result into.new }
-        ensures cause { HasCause 0 0 result }
+        ensures log { Adds (took result into.new) self.old.log.events self.new.log.events }
         ensures served { IsOk result }
         ensures count { IfOk result (λ n. n ≡ min (length (honest_left self.old)) (length into.old)) }
     {
         let count = copy_front(&self.bytes[self.at..], into);
+        self.log.note(&into[..count]);
         self.at += count;
         Ok(count)
     }
@@ -129,19 +141,19 @@ pub struct MemSink {
     room: u32,
     fail_at: Vec<u64>,
     calls: u64,
-    faults: u64,
+    log: Log,
     ghost has_room: { room ≤ vec_capacity bytes },
+    ghost on_record: { bytes_of log.events ≡ bytes.items },
 }
 
 impl MemSink {
-    ghost use Rattle.std.specs.Prelude.{◌+◌, ◌↔◌, IsTrue, IsErr};
-    ghost use Rattle.rssd_io.specs.Faults.{raised};
-    ghost use Rattle.rssd_io.specs.Memory.{sink_written, sink_faults, sink_calls, sink_fail_at, sink_room};
+    ghost use Rattle.std.specs.Prelude.{◌+◌, ◌↔◌, IsTrue};
+    ghost use Rattle.rssd_io.specs.Memory.{sink_written, sink_log, sink_calls, sink_fail_at, sink_room};
 
     /// An empty sink that was not called yet.
     pub fn new(alloc: Global, room: u32, fail_at: Vec<u64>) -> Result<MemSink, AllocError>
         ensures written { IfOk result (λ sink. sink_written sink ≡ []) }
-        ensures faults { IfOk result (λ sink. sink_faults sink ≡ 0) }
+        ensures log { IfOk result (λ sink. sink_log sink ≡ []) }
         ensures calls { IfOk result (λ sink. sink_calls sink ≡ 0) }
         ensures fail_at { IfOk result (λ sink. sink_fail_at sink ≡ fail_at.items) }
         ensures room { IfOk result (λ sink. sink_room sink ≡ room) }
@@ -151,7 +163,7 @@ impl MemSink {
             room,
             fail_at,
             calls: 0,
-            faults: 0,
+            log: Log::new(),
         })
     }
 
@@ -161,16 +173,6 @@ impl MemSink {
     {
         let room = self.room as usize;
         piece.len() <= room && self.bytes.len() <= room - piece.len()
-    }
-
-    /// Counts a fault.
-    fn refuse(&mut self) -> Result<(), WriteFault>
-        ensures refused { IsErr result }
-        ensures later { self.old.faults ≤ self.new.faults }
-        ensures counted { self.new ≡ record self.old { faults = raised self.old.faults } }
-    {
-        self.faults = self.faults.saturating_add(1);
-        Err(WriteFault)
     }
 
     /// The bytes that were given.
@@ -183,18 +185,19 @@ impl MemSink {
 
 impl Sink for MemSink {
     ghost use Rattle.std.specs.Prelude.{◌≡◌, ◌↔◌, ◌⊎◌, ◌+◌, ◌<◌, Some, length, Contains, IsErr, OnOk, OnErr};
-    ghost use Rattle.std.specs.Io.KnownBytes.{Appends};
-    ghost use Rattle.rssd_io.specs.Faults.{AppendsFront, HasCause, raised};
-    ghost use Rattle.rssd_io.specs.Memory.{sink_written, sink_faults, sink_calls, sink_fail_at, sink_room};
+    ghost use Rattle.std.specs.Io.KnownBytes.{Appends, Keeps};
+    ghost use Rattle.rssd_io.specs.Event.{Gave, Flushed};
+    ghost use Rattle.rssd_io.specs.Faults.{AppendsFront, raised};
+    ghost use Rattle.rssd_io.specs.Memory.{sink_written, sink_log, sink_calls, sink_fail_at, sink_room};
+
+    ghost log = { sink_log };
 
     ghost written = { λ s. Some (sink_written s) };
-
-    ghost faults = { sink_faults };
 
     fn give(&mut self, piece: &[u8]) -> Result<(), WriteFault>
         ensures ok { OnOk result (Appends (Some (sink_written self.old)) (Some (sink_written self.new)) piece.now) }
         ensures err { OnErr result (AppendsFront (Some (sink_written self.old)) (Some (sink_written self.new)) piece.now) }
-        ensures cause { HasCause (sink_faults self.old) (sink_faults self.new) result }
+        ensures log { Gave result piece.now (sink_log self.old) (sink_log self.new) }
         // Which calls fail, and that they append nothing.
         ensures listed { IsErr result ↔ (Contains (sink_fail_at self.old) (sink_calls self.new)
             ⊎ (sink_room self.old < length (sink_written self.old) + length piece.now)) }
@@ -205,12 +208,35 @@ impl Sink for MemSink {
     {
         self.calls = self.calls.saturating_add(1);
         if self.fail_at.contains(&self.calls) {
-            return self.refuse();
+            self.log.note(&[]);
+            self.log.note_failure();
+            return Err(WriteFault);
         }
         if !self.fits(piece) {
-            return self.refuse();
+            self.log.note(&[]);
+            self.log.note_failure();
+            return Err(WriteFault);
         }
         self.bytes.extend_from_slice(piece).unwrap();
+        self.log.note(piece);
+        Ok(())
+    }
+
+    fn flush(&mut self) -> Result<(), WriteFault>
+        ensures log { Flushed result (sink_log self.old) (sink_log self.new) }
+        ensures same { Keeps (Some (sink_written self.old)) (Some (sink_written self.new)) }
+        // Which calls fail.
+        ensures listed { IsErr result ↔ Contains (sink_fail_at self.old) (sink_calls self.new) }
+        ensures counted { sink_calls self.new ≡ raised (sink_calls self.old) }
+        ensures same_list { sink_fail_at self.new ≡ sink_fail_at self.old }
+        ensures same_room { sink_room self.new ≡ sink_room self.old }
+    {
+        self.calls = self.calls.saturating_add(1);
+        if self.fail_at.contains(&self.calls) {
+            self.log.note_failure();
+            return Err(WriteFault);
+        }
+        self.log.note_flush();
         Ok(())
     }
 }

@@ -1,34 +1,49 @@
-//! The readers and writers of std as sources and sinks: each error counts as a fault.
-ghost use Rattle.std.specs.Prelude.{◌≡◌, ℕ, length, drop, OnOk, OnErr};
-ghost use Rattle.std.specs.Io.KnownBytes.{Appends};
+//! The readers and writers of std as sources and sinks: each call is on record, an error as a failure.
+ghost use Rattle.std.specs.Prelude.{◌≡◌, ℕ, [], length, drop, OnOk, OnErr};
+ghost use Rattle.std.specs.Io.KnownBytes.{Appends, Keeps};
 ghost use Rattle.rssd_io.specs.Faults.{AppendsFront};
+ghost use Rattle.rssd_io.specs.Event.{Gave, Flushed};
+ghost use Rattle.rssd_io.specs.Standard.{source_log, sink_log};
 
+mod place;
+
+use crate::log::Log;
 use crate::{ReadFault, Sink, Source, WriteFault};
+pub(crate) use place::Place;
 use std::io::{Read, Write};
 
 /// A reader as a source.
 #[derive(Drop)]
 pub struct StdSource<R: Read> {
     inner: R,
-    faults: u64,
+    log: Log,
 }
 
 impl<R: Read> StdSource<R> {
-    pub fn new(inner: R) -> StdSource<R> {
-        StdSource { inner, faults: 0 }
+    /// A source that was not called yet.
+    pub fn new(inner: R) -> StdSource<R>
+        ensures { source_log result ≡ [] }
+    {
+        StdSource {
+            inner,
+            log: Log::new(),
+        }
     }
 }
 
 impl<R: Read> Source for StdSource<R> {
-    ghost left = { λ s. R.remaining s.inner };
+    ghost log = { λ s. s.log.events };
 
-    ghost faults = { λ s. s.faults };
+    ghost left = { λ s. R.remaining s.inner };
 
     fn take(&mut self, into: &mut [u8]) -> Result<usize, ReadFault> {
         match self.inner.read(into) {
-            Ok(count) => Ok(count),
+            Ok(count) => {
+                self.log.note(&into[..count]);
+                Ok(count)
+            }
             Err(_) => {
-                self.faults = self.faults.saturating_add(1);
+                self.log.note_failure();
                 Err(ReadFault)
             }
         }
@@ -39,40 +54,69 @@ impl<R: Read> Source for StdSource<R> {
 #[derive(Drop)]
 pub struct StdSink<W: Write> {
     inner: W,
-    faults: u64,
+    log: Log,
 }
 
 impl<W: Write> StdSink<W> {
-    pub fn new(inner: W) -> StdSink<W> {
-        StdSink { inner, faults: 0 }
+    /// A sink that was not called yet.
+    pub fn new(inner: W) -> StdSink<W>
+        ensures { sink_log result ≡ [] }
+    {
+        StdSink {
+            inner,
+            log: Log::new(),
+        }
     }
 }
 
-/// Writes the whole piece. A write of nothing is a fault.
-pub fn write_whole<W: Write>(inner: &mut W, piece: &[u8]) -> Result<(), WriteFault>
+/// Writes the whole piece, and notes what was written. A write of nothing is a failure.
+pub fn write_whole<W: Write>(inner: &mut W, log: &mut Log, piece: &[u8]) -> Result<(), WriteFault>
+    ensures log { Gave result piece.now log.old.events log.new.events }
     ensures ok { OnOk result (Appends (W.contents inner.old) (W.contents inner.new) piece.now) }
     ensures err { OnErr result (AppendsFront (W.contents inner.old) (W.contents inner.new) piece.now) }
 {
     let mut at = 0;
     while at < piece.len() {
         match inner.write(&piece[at..]) {
-            Ok(0) | Err(_) => return Err(WriteFault),
+            Ok(0) | Err(_) => {
+                log.note(&piece[..at]);
+                log.note_failure();
+                return Err(WriteFault);
+            }
             Ok(count) => at += count,
         }
     }
+    log.note(piece);
     Ok(())
 }
 
+/// Hands on what waits in the writer, and notes whether this failed.
+fn hand_on<W: Write>(inner: &mut W, log: &mut Log) -> Result<(), WriteFault>
+    ensures log { Flushed result log.old.events log.new.events }
+    ensures same { Keeps (W.contents inner.old) (W.contents inner.new) }
+{
+    match inner.flush() {
+        Ok(()) => {
+            log.note_flush();
+            Ok(())
+        }
+        Err(_) => {
+            log.note_failure();
+            Err(WriteFault)
+        }
+    }
+}
+
 impl<W: Write> Sink for StdSink<W> {
+    ghost log = { λ s. s.log.events };
+
     ghost written = { λ s. W.contents s.inner };
 
-    ghost faults = { λ s. s.faults };
-
     fn give(&mut self, piece: &[u8]) -> Result<(), WriteFault> {
-        let outcome = write_whole(&mut self.inner, piece);
-        if outcome.is_err() {
-            self.faults = self.faults.saturating_add(1);
-        }
-        outcome
+        write_whole(&mut self.inner, &mut self.log, piece)
+    }
+
+    fn flush(&mut self) -> Result<(), WriteFault> {
+        hand_on(&mut self.inner, &mut self.log)
     }
 }

@@ -1,9 +1,14 @@
 -- What a line on a device left, by its reply, is a step of a session with power, and a played step on any die.
-use Rattle.std.proofs.Common.{◌≡◌, inl, inr, ℕ, List, true, false, refl, arith, sym, ap, ◌∙◌, subst}
+use Rattle.std.proofs.Common.{◌≡◌, inl, inr, ℕ, ◌^◌, ◌<◌, List, true, false, refl, arith, sym, ap, ◌∙◌, subst}
 use Rattle.cell_die.specs.Calls.{IsQuiet, PassedWithin}
 use Rattle.cell_die.proofs.Quiet.{quiet_stays, quiet_stays_within, quiet_change, quiet_read}
 use Rattle.page_codec.specs.Sound.{IsSound}
-use Rattle.rssd_run.specs.Step.{AlwaysAnswered}
+use Rattle.rssd_run.specs.Step.{AlwaysAnswered, TrueWhileOn}
+use Rattle.rssd_run.specs.View.{View, Event, StandsFor, NoFailure}
+use Rattle.rssd_run.specs.Placing.{PlacedExactly}
+use Rattle.rssd_run.proofs.Came.{none_came}
+use Rattle.rssd_run.proofs.Parts.{keeps_same}
+use Rattle.rssd_run.proofs.Still.{lowers_none}
 use Rattle.rssd_script.specs.declared.lines.Line.{Line}
 use Rattle.rssd_script.specs.declared.lines.Line.TheVariants.{Write, Read, Trim, Idle}
 use Rattle.rssd_script.specs.declared.replies.Reply.{Reply}
@@ -21,9 +26,9 @@ use Rattle.rssd_run.specs.Shows.{Mounted}
 use Rattle.rssd_run.specs.Played.{IsPlayed, WroteSo, AnsweredWrite, AnsweredRead, AnsweredTrim, AnsweredIdle, Answered, IsPlayedStep, Plays, PlaysQuiet}
 use Rattle.rssd_run.proofs.WriteSteps.{event_of}
 use Rattle.rssd_run.proofs.Stepped.{array_runs, array_stops, wrote_steps, write_fault_steps, trimmed_steps, trim_fault_steps, idled_steps, idle_fault_steps, read_steps, read_fault_steps}
-use Rattle.rssd_run.proofs.Refused.{Stays, stays_step, still_steps, off_step, write_range, write_long, write_spent, read_range, trim_range, trim_spent}
+use Rattle.rssd_run.proofs.Refused.{Stays, still_steps, off_step, write_range, write_long, write_spent, read_range, trim_range, trim_spent}
 use Rattle.rssd_run.proofs.Sessions.{runs_array, stops_array, shows_stands, small_plus}
-use Rattle.rssd_run.proofs.PlayedSteps.{step_played, played_first, played_second, played_declined, played_write_read_fault, played_write_change_fault, played_trim, played_trim_read_fault, played_trim_change_fault, played_idle, played_idle_read_fault, played_idle_change_fault, played_read, played_read_fault}
+use Rattle.rssd_run.proofs.PlayedSteps.{step_played, played_book, played_first, played_second, played_declined, played_write_read_fault, played_write_change_fault, played_trim, played_trim_read_fault, played_trim_change_fault, played_idle, played_idle_read_fault, played_idle_change_fault, played_read, played_read_fault}
 
 -- a write that was placed
 pub answered_wrote : (d : Numbers) (sector : ℕ) (bytes : List ℕ) (placed : Placed) (old new : DeviceValue) → WroteSo d sector bytes placed old new → AnsweredWrite d sector bytes (reply_of placed) old new
@@ -97,6 +102,36 @@ module _ (d : Numbers) (old new : DeviceValue) (running : old.stopped ≡ false)
       let s = change sound f base in
       (Off (rows_of d old.view) done, array_stops new.stopped f.stopped (rows_of d new.view) (rows_of d old.view) done s.stands_after, s))
 
+-- a line that leaves a view as it is, on a die that need not tell its power
+stays_played : (d : Numbers) (v : View) (line : Line) (reply : Reply) → IsPlayed line → StandsFor d v → TrueWhileOn d v → v.device.first < 2 ^ 64 → v.device.second < 2 ^ 64 → v.device.declined < 2 ^ 64
+    → Stays d v line reply → IsPlayedStep d (event_of line reply v v)
+stays_played d v line reply is stands book small_first small_second small_declined s =
+    let e : Event = event_of line reply v v in
+    let none : NoFailure e = none_came v.device.die v.device.die (lowers_none {Bounded = ⊥} v.device.die) in
+    record {
+      row = s.row;
+      stands_before = stands;
+      stands_after = stands;
+      off = λ h. absurd (s.no_fault h);
+      keeps = keeps_same d v.device;
+      placed = λ sector bytes tried.
+          let p : PlacedExactly d e sector (filled_up d.geometry.sector_bytes bytes) = s.placed sector bytes tried in
+          record {
+            second = (λ h. (s.no_fault, (p.second.0 h).1), λ h. p.second.1 (none, h.1));
+            declined = (λ h. (s.no_fault, (p.declined.0 h).1), λ h. p.declined.1 (none, h.1));
+            first = (λ h. (s.no_fault, (p.first.0 h).1), λ h. p.first.1 (none, h.1));
+            over_unit = p.over_unit;
+            on_clean = p.on_clean;
+          };
+      cause = λ h. absurd (s.no_fault h);
+      refused = s.refused;
+      idle = s.idle;
+      stays = λ h. record { cells = refl; erases = refl };
+      tallies = record { first = omega (arith, s.tallies.0, small_first); second = omega (arith, s.tallies.1, small_second); declined = omega (arith, s.tallies.2, small_declined) };
+      true_book = book;
+      moves = played_book d v v line reply is s.moves;
+    }
+
 module _ (d : Numbers) (old new : DeviceValue) (running : old.stopped ≡ false) where
   plays_same : (line : Line) (reply : Reply) → IsPlayed line → new ≡ old → ((base : Tallies) → Stays d (on d base old) line reply) → Plays d line reply old new
   plays_same line reply is same stays =
@@ -104,7 +139,7 @@ module _ (d : Numbers) (old new : DeviceValue) (running : old.stopped ≡ false)
       (plays_from d old old running line reply (λ base sound book. (
         On (rows_of d old.view),
         array_runs old.stopped running (rows_of d old.view),
-        step_played d (on d base old) (on d base old) line reply is (stays_step d (on d base old) line reply refl (λ o. book running) (omega arith) (omega arith) (omega arith) (stays base)),
+        stays_played d (on d base old) line reply is refl (λ o. book running) (omega arith) (omega arith) (omega arith) (stays base),
       )))
 
   write_plays : (sector : ℕ) (bytes : List ℕ) (reply : Reply) → AnsweredWrite d sector bytes reply old new → Plays d (Write sector bytes) reply old new

@@ -8,6 +8,7 @@ use Rattle.page_codec.specs.Records.{header_in}
 use Rattle.page_codec.specs.Sound.{IsSound}
 use Rattle.rssd_core.specs.DeviceValue.{DeviceView}
 use Rattle.rssd_core.specs.Mount.{EveryBlockLive}
+use Rattle.rssd_io.specs.Event.{Event as Act}
 use Rattle.rssd_script.specs.declared.lines.Line.{Line}
 use Rattle.rssd_run.specs.ArrayWithCuts.{On}
 use Rattle.rssd_run.specs.View.{View}
@@ -63,13 +64,13 @@ module _ (head : ImageHead) (die : DieState) (fresh : IsFresh head die) where
         sound = subst (IsSound d.geometry) (sym same) sound;
       }
 
-  module _ (lines : List Line) (written written_after : Option (List ℕ)) where
-    pub replays_of : (last : DieState) → RunsOn head die lines written written_after last → Replays head lines written written_after
+  module _ (lines : List Line) (log log_after : List Act) where
+    pub replays_of : (last : DieState) → RunsOn head die lines log log_after last → Replays head lines log log_after
     replays_of last on_die =
-        let to : RunsTo (numbers_named head) on_die.before lines written written_after last = on_die.run (inl sound) in
+        let to : RunsTo (numbers_named head) on_die.before lines log log_after last = on_die.run (inl sound) in
         record { before = on_die.before; start = blank_start on_die.before on_die.start; after = to.after; run = to.run }
 
-    pub front_of : RunsFrontOn head die lines written written_after → ReplaysFront head lines written written_after
+    pub front_of : RunsFrontOn head die lines log log_after → ReplaysFront head lines log log_after
     front_of on_die =
-        let to : RunsInPart (numbers_named head) on_die.before lines written written_after = on_die.run (inl sound) in
+        let to : RunsInPart (numbers_named head) on_die.before lines log log_after = on_die.run (inl sound) in
         record { before = on_die.before; start = blank_start on_die.before on_die.start; after = to.after; run = to.run }

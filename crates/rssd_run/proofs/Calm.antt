@@ -14,6 +14,7 @@ use Rattle.block_state.specs.declared.state.State.{State}
 use Rattle.block_state.specs.declared.state.State.TheVariants.{Clean, Active, Used, Recycled, Reused, Spare}
 use Rattle.block_state.specs.State.{is_spare}
 use Rattle.block_state.specs.Book.{BookValue, IsSpare, state_at}
+use Rattle.rssd_io.specs.Event.{Event as Act}
 use Rattle.rssd_script.specs.declared.lines.Line.{Line}
 use Rattle.rssd_script.specs.declared.lines.Line.TheVariants.{Write, Read, Trim, Idle, Cut, FailRead, Mount, Stat}
 use Rattle.rssd_script.specs.declared.replies.Reply.{Reply}
@@ -254,8 +255,8 @@ start_unarmed head view start =
     let q = quiet_after _ _ start.die.failures start.device.view.die.failures start.blank.quiet start.mounts.calls.failures in
     record { cut = ap cut_of same ∙ q.0; read = ap read_failure_of same ∙ q.1; free = start.sound.one_free }
 
-pub replays_calmly : (head : ImageHead) (lines : List Line) (written written_after : Option (List ℕ)) (r : Replays head lines written written_after) → All (λ line. is_arming line ≡ false) lines → IsCalm r.run.events
-replays_calmly head lines written written_after r none =
+pub replays_calmly : (head : ImageHead) (lines : List Line) (log log_after : List Act) (r : Replays head lines log log_after) → All (λ line. is_arming line ≡ false) lines → IsCalm r.run.events
+replays_calmly head lines log log_after r none =
     runs_calmly (numbers_named head) r.before r.run.events r.after r.run.run (start_unarmed head r.before r.start)
     (subst IsOn (sym r.start.zeros) tt) (subst (All (λ line. is_arming line ≡ false)) (sym r.run.of_lines) none)
 
@@ -272,9 +273,9 @@ image_unarmed head die view quiet start =
           (book_free d start.device.view.die.cells start.device.view.book start.device.view.seq (start.mounts.true_book start.mounts.running));
     }
 
-pub images_calmly : (head : ImageHead) (die : DieState) (lines : List Line) (written written_after : Option (List ℕ)) (last : DieState) (quiet : IsQuiet die) (r : RunsOn head die lines written written_after last)
+pub images_calmly : (head : ImageHead) (die : DieState) (lines : List Line) (log log_after : List Act) (last : DieState) (quiet : IsQuiet die) (r : RunsOn head die lines log log_after last)
     (calm : CalmFor (numbers_named head) die lines) → All (λ line. is_arming line ≡ false) lines → IsCalm (r.run calm).run.events
-images_calmly head die lines written written_after last quiet r calm none =
-    let to : RunsTo (numbers_named head) r.before lines written written_after last = r.run calm in
+images_calmly head die lines log log_after last quiet r calm none =
+    let to : RunsTo (numbers_named head) r.before lines log log_after last = r.run calm in
     runs_calmly (numbers_named head) r.before to.run.events to.after to.run.run (image_unarmed head die r.before quiet r.start)
     (subst IsOn (sym r.start.rows) tt) (subst (All (λ line. is_arming line ≡ false)) (sym to.run.of_lines) none)

@@ -11,7 +11,7 @@ use Rattle.rssd_run.specs.ArrayWithCuts.{On, Off}
 use Rattle.rssd_run.specs.View.{Event, NoFailure}
 use Rattle.rssd_run.specs.Held.{Tallies, plus, on, off, Calm}
 use Rattle.rssd_run.specs.Step.{IsStep}
-use Rattle.rssd_run.proofs.Came.{went_lowers, none_came, ACutCame, change_came, AReadCame, read_came, change_rose, read_rose}
+use Rattle.rssd_run.proofs.Came.{went_lowers, none_came, ACutCame, change_came, AReadCame, read_came, change_rose, read_rose, went_tells, went_power, change_failed_tells, read_failed_tells}
 use Rattle.rssd_core.specs.IdleRule.{IdleMoves, IdleUnfinished}
 use Rattle.cell_die.specs.DieState.{DieState}
 use Rattle.cell_die.specs.Calls.{PassedWithin}
@@ -71,7 +71,7 @@ trimmed_step d base old new sector in_range power holds w =
       stands_before = refl;
       stands_after = refl;
       off = λ h. cc;
-      keeps = keeps d base old new holds;
+      keeps = keeps d base old new holds (went_tells old.view.die new.view.die w.calls);
       placed = λ s b t. absurd (let l = t.write in cc);
       fault = no_fault e (λ h. cc) none;
       answers = record {
@@ -85,6 +85,7 @@ trimmed_step d base old new sector in_range power holds w =
       true_book = λ h. holds.true_book w.running;
       moves = (record { book = plus_book d base old.view new.view (λ rise at came. at power came) w.book; seq = plus_seq d base old.view new.view w.seq }, tt);
       armed = record { arms = tt; lowers = λ a f. lowers; fault = λ h. cc };
+      power = λ on tells. went_power old.view.die new.view.die power w.calls;
     }
 
 pub trim_read_fault : (d : Numbers) (base : Tallies) (old new : DeviceValue) (sector : ℕ) → sector < d.geometry.sectors → TellsPower old.view.die → Holds d old new
@@ -98,7 +99,7 @@ trim_read_fault d base old new sector in_range power holds w f =
       stands_before = refl;
       stands_after = refl;
       off = λ h c. record { only = λ off. absurd off; always = λ on more. omega (arith, f.failed.change_faults, more) };
-      keeps = keeps d base old new holds;
+      keeps = keeps d base old new holds (read_failed_tells old.view.die new.view.die f.failed);
       placed = λ s b t. absurd (let l = t.write in cc);
       fault = record {
         came = (λ h. inr came.came, λ h. refl);
@@ -126,6 +127,7 @@ trim_read_fault d base old new sector in_range power holds w f =
           read_came = λ read. (came.within, came.cut, came.form);
         };
       };
+      power = λ on tells. came.power;
     }
 
 pub trim_change_fault : (d : Numbers) (base : Tallies) (old new : DeviceValue) (sector : ℕ) → sector < d.geometry.sectors → TellsPower old.view.die → Calm d old.view.die → Holds d old new
@@ -140,7 +142,7 @@ trim_change_fault d base old new sector in_range power calm holds w f =
       stands_before = refl;
       stands_after = calm_rows d old new calm came f.rows;
       off = λ h c. record { only = λ off. f.failed.change_faults; always = λ on. absurd on };
-      keeps = keeps d base old new holds;
+      keeps = keeps d base old new holds (change_failed_tells old.view.die new.view.die f.failed);
       placed = λ s b t. absurd (let l = t.write in cc);
       fault = record {
         came = (λ h. inl came.came, λ h. refl);
@@ -168,6 +170,7 @@ trim_change_fault d base old new sector in_range power calm holds w f =
           read_came = λ read. absurd (omega (arith, came.read.to_come read.0, read.1));
         };
       };
+      power = λ on. absurd on;
     }
 
 pub idled_step : (d : Numbers) (base : Tallies) (old new : DeviceValue) (n k : ℕ) → TellsPower old.view.die → Holds d old new
@@ -181,7 +184,7 @@ idled_step d base old new n k power holds w =
       stands_before = refl;
       stands_after = refl;
       off = λ h. cc;
-      keeps = keeps d base old new holds;
+      keeps = keeps d base old new holds (went_tells old.view.die new.view.die (bounded w.calls));
       placed = λ s b t. absurd (let l = t.write in cc);
       fault = no_fault e (λ h. cc) none;
       answers = record {
@@ -195,6 +198,7 @@ idled_step d base old new n k power holds w =
       true_book = λ h. holds.true_book w.running;
       moves = (record { book = plus_book d base old.view new.view (λ rise at came. at power came) w.book; seq = plus_seq d base old.view new.view w.seq }, moves_plus d base old.view new.view k w.moves);
       armed = record { arms = tt; lowers = λ a f. lowers; fault = λ h. cc };
+      power = λ on tells. went_power old.view.die new.view.die power (bounded w.calls);
     }
 
 pub idle_read_fault : (d : Numbers) (base : Tallies) (old new : DeviceValue) (n : ℕ) → TellsPower old.view.die → Holds d old new
@@ -208,7 +212,7 @@ idle_read_fault d base old new n power holds w f =
       stands_before = refl;
       stands_after = refl;
       off = λ h c. record { only = λ off. absurd off; always = λ on more. omega (arith, f.failed.change_faults, more) };
-      keeps = keeps d base old new holds;
+      keeps = keeps d base old new holds (read_failed_tells old.view.die new.view.die f.failed);
       placed = λ s b t. absurd (let l = t.write in cc);
       fault = record {
         came = (λ h. inr came.came, λ h. refl);
@@ -236,6 +240,7 @@ idle_read_fault d base old new n power holds w f =
           read_came = λ read. (came.within, came.cut, came.form);
         };
       };
+      power = λ on tells. came.power;
     }
 
 pub idle_change_fault : (d : Numbers) (base : Tallies) (old new : DeviceValue) (n : ℕ) → TellsPower old.view.die → Calm d old.view.die → Holds d old new
@@ -250,7 +255,7 @@ idle_change_fault d base old new n power calm holds w f =
       stands_before = refl;
       stands_after = calm_rows d old new calm came f.rows;
       off = λ h c. record { only = λ off. f.failed.change_faults; always = λ on. absurd on };
-      keeps = keeps d base old new holds;
+      keeps = keeps d base old new holds (change_failed_tells old.view.die new.view.die f.failed);
       placed = λ s b t. absurd (let l = t.write in cc);
       fault = record {
         came = (λ h. inl came.came, λ h. refl);
@@ -278,4 +283,5 @@ idle_change_fault d base old new n power calm holds w f =
           read_came = λ read. absurd (omega (arith, came.read.to_come read.0, read.1));
         };
       };
+      power = λ on. absurd on;
     }

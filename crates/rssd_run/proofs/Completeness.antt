@@ -1,19 +1,54 @@
--- Where all that a command reads is in its grammar and no count of faults rose, only two statuses are left.
-use Rattle.std.proofs.Common.{◌≡◌, ◌⊎◌, inl, inr, ℕ, List, Option, IfSome, true, refl, ap, arith, subst}
+-- Where all that a command took is in its grammar and no call of a source or sink failed, only two statuses are left.
+use Rattle.std.proofs.Common.{◌≡◌, ◌⊎◌, inl, inr, ℕ, List, [], ◌∷◌, ◌++◌, take, get_or, true, refl, sym, ap, arith, subst, ◌∙◌, append_assoc}
+use Rattle.rssd_io.specs.Event.{Event, HasFailed, moved, failed}
+use Rattle.rssd_io.specs.Pieces.{all_given, StopsIn}
+use Rattle.rssd_io.proofs.Logs.{failed_since}
 use Rattle.rssd_script.proofs.Unique.{no_bad}
+use Rattle.rssd_script.specs.Replies.{reply_line}
 use Rattle.die_image.specs.declared.head.ImageHead.{ImageHead}
 use Rattle.rssd_words.specs.declared.command.Command.{Command}
 use Rattle.rssd_words.specs.declared.command.Command.TheVariants.{Replay, Run, Format, Make, Upgrade, Queue, Worn, Pair, Audit}
 use Rattle.rssd_run.specs.declared.status.Status.{Status}
 use Rattle.rssd_run.specs.declared.status.Status.TheVariants.{Done, BadWords, BadScript, BadImage, ReadFault, WriteFault, OutOfMemory}
-use Rattle.rssd_run.specs.Statuses.{Call}
+use Rattle.rssd_run.specs.Statuses.{Call, taken, WriteFailed}
 use Rattle.rssd_run.specs.ImageRuns.{IsFull}
-use Rattle.rssd_run.specs.Top.{SaysOf, SaysReplay, SaysRun, SaysFormat, SaysUpgrade, IsRefused, IsBadImage, IsNoImage, HasScript, HasImage, HasOldImage, NoneFailed, IsComplete}
+use Rattle.rssd_run.specs.Run.{pieces_of}
+use Rattle.rssd_run.specs.Top.{SaysOf, SaysReplay, SaysRun, SaysFormat, SaysUpgrade, StopsReplay, IsRunCutOff, IsRefused, IsBadImage, IsNoImage, HasScript, HasImage, HasOldImage, NoneFailed, IsComplete}
 
-never_refused : (call : Call) (script : HasScript call) → IfSome call.script.told (IsRefused call.out) → ⊥
-never_refused call script says = elim (subst (λ (text : Option (List ℕ)). IfSome text (IsRefused call.out)) script.told says) [
+-- ---- a sink that took a part failed
+
+pub stopped : (pieces : List (List ℕ)) (old new : List Event) → StopsIn pieces old new → HasFailed old new
+stopped pieces old new (inl at) =
+    let given : List Event = all_given (take at.before pieces) in
+    let part : List ℕ = take at.n (get_or pieces at.before []) in
+    failed_since old new (given ++ moved part ∷ []) (at.log ∙ ap (λ (xs : List Event). old ++ xs) (sym (append_assoc given (moved part ∷ []) (failed ∷ []))))
+stopped pieces old new (inr at_end) = failed_since old new (all_given pieces) at_end
+
+-- a run whose pieces were not handed on
+unflushed : (old given new pieces : List Event) → given ≡ old ++ pieces → new ≡ given ++ failed ∷ [] → HasFailed old new
+unflushed old given new pieces came stops = failed_since old new pieces (stops ∙ (ap (λ (xs : List Event). xs ++ failed ∷ []) came ∙ append_assoc old pieces (failed ∷ [])))
+
+replay_stopped : (head : ImageHead) (call : Call) → SaysReplay head call.script call.out WriteFault → WriteFailed call.out
+replay_stopped head call says = elim says.stops [
+  | inl front ↦ (
+      let e = front.run in
+      let part : List ℕ = take e.front (reply_line e.last.reply) in
+      let given : List Event = all_given (pieces_of e.events) in
+      failed_since call.out.before call.out.after (given ++ moved part ∷ []) (e.given ∙ ap (λ (xs : List Event). call.out.before ++ xs) (sym (append_assoc given (moved part ∷ []) (failed ∷ []))))
+      )
+  | inr all ↦ unflushed call.out.before all.0 call.out.after (all_given (pieces_of all.1.run.events)) all.1.run.given all.2
+]
+
+run_stopped : (call : Call) → IsRunCutOff call.image call.script call.out → WriteFailed call.out
+run_stopped call (inl stops) = stops.failed
+run_stopped call (inr all) = let grew = all.1.runs.runs.grew in unflushed call.out.before all.0 call.out.after grew.0 grew.1 all.2
+
+-- ---- what a refusal says of what was taken
+
+never_refused : (call : Call) → HasScript call → IsRefused call.script call.out → ⊥
+never_refused call script says = elim says [
   | inl long ↦ (let more = long.0 in let short = script.is_script.0 in omega (arith, more, short))
-  | inr bad ↦ no_bad script.text script.lines bad.0 script.is_script.1 bad.2
+  | inr bad ↦ no_bad (taken call.script) script.lines bad.0 script.is_script.1 bad.2
 ]
 
 never_full : (call : Call) (image : HasImage call) (head : ImageHead) (cells : List ℕ) → head ≡ image.head → cells ≡ image.cells → IsFull head cells → ⊥
@@ -24,22 +59,30 @@ never_full call image head cells same_head same_cells full =
     let none = free.2 in
     omega (arith, live, none)
 
-never_bad : (call : Call) (image : HasImage call) (text : List ℕ) → IsBadImage call.out text image.bytes → ⊥
-never_bad call image text bad = elim bad.refused [
-  | inl no_image ↦ (let is = image.is_image in let not = no_image.refused in cc)
+never_bad : (call : Call) → HasImage call → IsBadImage call.image call.script call.out → ⊥
+never_bad call image bad = elim bad.refused [
+  | inl no_image ↦ (let is = image.is_image in let not = no_image.refused.refused in cc)
   | inr full ↦ (
       let is = image.is_image in
-      let other = full.is_image in
+      let other = full.is_image.reads in
       let same : ◌≡◌ {A = ImageHead × List ℕ} (full.head, full.cells) (image.head, image.cells) = cc in
       never_full call image full.head full.cells (ap (λ (p : ImageHead × List ℕ). p.0) same) (ap (λ (p : ImageHead × List ℕ). p.1) same) full.full)
 ]
+
+never_no_image : (call : Call) → HasOldImage call → IsNoImage true call.image call.out → ⊥
+never_no_image call image no_image =
+    let is = image.is_image in
+    let not = no_image.refused.refused in
+    cc
+
+-- ---- each command
 
 replay_completes : (head : ImageHead) (call : Call) (status : Status) → SaysReplay head call.script call.out status → HasScript call → NoneFailed call → (status ≡ Done) ⊎ (status ≡ OutOfMemory)
 replay_completes head call Done says script none = inl refl
 replay_completes head call OutOfMemory says script none = inr refl
 replay_completes head call BadScript says script none = absurd (never_refused call script says)
 replay_completes head call ReadFault says script none = absurd (none.no_script_fault says.0)
-replay_completes head call WriteFault says script none = absurd (none.no_out_fault says.1)
+replay_completes head call WriteFault says script none = absurd (none.no_out_fault (replay_stopped head call says))
 replay_completes head call BadWords says script none = absurd says
 replay_completes head call BadImage says script none = absurd says
 
@@ -47,40 +90,32 @@ run_completes : (call : Call) (status : Status) → SaysRun call.image call.scri
 run_completes call Done says script image none = inl refl
 run_completes call OutOfMemory says script image none = inr refl
 run_completes call BadScript says script image none = absurd (never_refused call script says.0)
-run_completes call BadImage says script image none =
-    let of_text = subst (λ (text : Option (List ℕ)). IfSome text (λ text. IfSome call.image.told (IsBadImage call.out text))) script.told says.0 in
-    absurd (never_bad call image script.text (subst (λ (bytes : Option (List ℕ)). IfSome bytes (IsBadImage call.out script.text)) image.told of_text))
-run_completes call ReadFault says script image none = absurd (elim says.0 [ inl failed ↦ none.no_script_fault failed | inr failed ↦ none.no_image_fault failed ])
-run_completes call WriteFault says script image none = absurd (elim says [ inl cut_off ↦ none.no_out_fault cut_off.0 | inr cut_off ↦ none.no_image_out_fault cut_off.0 ])
+run_completes call BadImage says script image none = absurd (never_bad call image says.0)
+run_completes call ReadFault says script image none = absurd (elim says.0 [ inl failed ↦ none.no_script_fault failed.0 | inr failed ↦ none.no_image_fault failed.0 ])
+run_completes call WriteFault says script image none =
+    absurd (elim says [ inl cut_off ↦ none.no_out_fault (run_stopped call cut_off.0) | inr cut_off ↦ none.no_image_out_fault (stopped _ call.image_out.before call.image_out.after cut_off.written) ])
 run_completes call BadWords says script image none = absurd says
 
 format_completes : (head : ImageHead) (call : Call) (status : Status) → SaysFormat head call.image_out status → NoneFailed call → (status ≡ Done) ⊎ (status ≡ OutOfMemory)
 format_completes head call Done says none = inl refl
 format_completes head call OutOfMemory says none = inr refl
-format_completes head call WriteFault says none = absurd (none.no_image_out_fault says.1)
+format_completes head call WriteFault says none = absurd (none.no_image_out_fault (stopped _ call.image_out.before call.image_out.after says))
 format_completes head call BadWords says none = absurd says
 format_completes head call BadScript says none = absurd says
 format_completes head call BadImage says none = absurd says
 format_completes head call ReadFault says none = absurd says
-
-never_no_image : (call : Call) (image : HasOldImage call) → IfSome call.image.told (IsNoImage true call.out) → ⊥
-never_no_image call image says =
-    let no_image : IsNoImage true call.out image.bytes = subst (λ (bytes : Option (List ℕ)). IfSome bytes (IsNoImage true call.out)) image.told says in
-    let is = image.is_image in
-    let not = no_image.refused in
-    cc
 
 upgrade_completes : (call : Call) (status : Status) → SaysUpgrade call.image call.out call.image_out status → HasOldImage call → NoneFailed call → (status ≡ Done) ⊎ (status ≡ OutOfMemory)
 upgrade_completes call Done says image none = inl refl
 upgrade_completes call OutOfMemory says image none = inr refl
 upgrade_completes call BadImage says image none = absurd (never_no_image call image says.0)
 upgrade_completes call ReadFault says image none = absurd (none.no_image_fault says.0)
-upgrade_completes call WriteFault says image none = absurd (none.no_image_out_fault says.1)
+upgrade_completes call WriteFault says image none = absurd (none.no_image_out_fault (stopped _ call.image_out.before call.image_out.after says.0.written))
 upgrade_completes call BadWords says image none = absurd says
 upgrade_completes call BadScript says image none = absurd says
 
 pub completes : (command : Command) (call : Call) (status : Status) → SaysOf command call status → IsComplete command call status
-completes (Replay head) call status says asked none = replay_completes head call status says asked none
+completes (Replay head) call status says asked none = replay_completes head call status says.0 asked none
 completes Run call status says asked none = run_completes call status says.0 asked.0 asked.1 none
 completes (Format head) call status says asked none = format_completes head call status says.0 none
 completes Upgrade call status says asked none = upgrade_completes call status says.0 asked none

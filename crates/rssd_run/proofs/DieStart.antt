@@ -15,6 +15,7 @@ use Rattle.rssd_core.specs.declared.device.MountError.TheVariants.{OutOfMemory, 
 use Rattle.rssd_core.specs.DeviceValue.{Numbers, DeviceView, DeviceValue, rows_of}
 use Rattle.rssd_core.specs.Failures.{cut_of, cut_in, read_in}
 use Rattle.rssd_core.specs.Mount.{Fits, Refuses, NoCounts, EveryBlockLive, numbers_of}
+use Rattle.rssd_io.specs.Event.{Event as Act, Grows}
 use Rattle.rssd_script.specs.declared.lines.Line.{Line}
 use Rattle.rssd_run.specs.ArrayWithCuts.{On}
 use Rattle.rssd_run.specs.View.{View}
@@ -147,11 +148,12 @@ named_shape head =
     let row : HasRow head.scheme (meaning_named head.scheme) = named_row head.scheme in
     λ i. record (shape_of head) { spare_bytes = 16 * row.generations i }
 
-module _ (head : ImageHead) (die : DieState) (lines : List Line) (written written_after : Option (List ℕ)) (ready : IsReady head die) (old new : SessionValue) (starts : StartsOn head die old) where
-  pub runs_on : (last : DieState) → last.shape ≡ geometry_shape (numbers_named head).geometry → HasDie last new.holding
-      → RunsSession (numbers_named head) lines old new written written_after → RunsOn head die lines written written_after last
-  runs_on last shape has session_runs = record {
+module _ (head : ImageHead) (die : DieState) (lines : List Line) (log log_after : List Act) (ready : IsReady head die) (old new : SessionValue) (starts : StartsOn head die old) where
+  pub runs_on : (last : DieState) → last.shape ≡ geometry_shape (numbers_named head).geometry → HasDie last new.holding → Grows log log_after
+      → RunsSession (numbers_named head) lines old new log log_after → RunsOn head die lines log log_after last
+  runs_on last shape has grew session_runs = record {
     shape = shape ∙ named_shape head;
+    grew = grew;
     before = starts.view;
     start = starts.start;
     run = λ calm.
@@ -159,7 +161,7 @@ module _ (head : ImageHead) (die : DieState) (lines : List Line) (written writte
         record { after = to.0; die = shown_die (numbers_named head) new.base new.holding to.0 last to.1 has; run = to.2 };
   }
 
-  pub runs_front_on : CutsOffSession (numbers_named head) lines old new written written_after → RunsFrontOn head die lines written written_after
+  pub runs_front_on : CutsOffSession (numbers_named head) lines old new log log_after → RunsFrontOn head die lines log log_after
   runs_front_on cut_off = record {
     before = starts.view;
     start = starts.start;

@@ -1,65 +1,66 @@
 -- What was read, run and given makes what the top call says of `run`.
-use Rattle.std.proofs.Common.{◌≡◌, inr, ℕ, Bool, false, List, [], Option, None, Some, Ok, IfSome, subst}
-use Rattle.std.specs.Io.KnownBytes.{Appends}
+use Rattle.std.proofs.Common.{◌≡◌, inl, inr, ◌++◌, ◌∷◌, [], ℕ, Bool, false, List, sym, subst}
+use Rattle.std.specs.Prelude.{Result, Ok, Err, true, is_err}
+use Rattle.std.proofs.lemmas.Bool.{false≢true}
 use Rattle.cell_die.specs.DieState.{DieState}
-use Rattle.rssd_io.specs.Faults.{AppendsFront}
+use Rattle.rssd_io.specs.Event.{Event, Flushed, flushed, failed}
 use Rattle.die_image.specs.declared.head.ImageHead.{ImageHead}
-use Rattle.die_image.specs.Image.{image as image_of, image_read}
 use Rattle.rssd_script.specs.declared.lines.Line.{Line}
-use Rattle.rssd_script.specs.Scripts.{Reads}
+use Rattle.rssd_run.specs.GiveImage.{image_pieces}
 use Rattle.rssd_run.specs.ReadScript.{ReadsAll}
 use Rattle.rssd_run.specs.ReadImage.{ReadsImage}
 use Rattle.rssd_run.specs.ImageRuns.{HasCells, RunsImage, RunsImageFront, IsFull}
-use Rattle.rssd_run.specs.Statuses.{Input, Output, GaveLine, no_spare}
-use Rattle.rssd_run.specs.Top.{AreGiven, IsRun, IsRunCutOff, IsImageCutOff, IsBadImage, OfGiven}
+use Rattle.rssd_run.specs.Statuses.{Input, Output, Took, TookPart, GaveLine, WriteFailed, no_spare}
+use Rattle.rssd_run.specs.Top.{AreGiven, AllRun, IsRun, IsRunCutOff, IsImageCutOff, IsBadImage}
 
-of_both : (script image : Option (List ℕ)) (Q R : List ℕ → Type 0) (P : List ℕ → List ℕ → Type 0) → IfSome script Q → IfSome image R
-    → ((text bytes : List ℕ) → Q text → R bytes → P text bytes) → IfSome script (λ text. IfSome image (P text))
-of_both None image Q R P script_is image_is make = tt
-of_both (Some text) None Q R P script_is image_is make = tt
-of_both (Some text) (Some bytes) Q R P script_is image_is make = make text bytes script_is image_is
+-- ---- whether a flush failed
 
--- what was read
-module _ (image script : Input) (P : List ℕ → List ℕ → Type 0) (lines : List Line) (head : ImageHead) (cells : List ℕ) (is_old : Bool) (new : is_old ≡ false)
-    (read_script : ReadsAll script.told script.left lines) (read_image : ReadsImage is_old image.told image.left head cells) where
-  of_read : ((text bytes : List ℕ) → AreGiven text bytes lines head cells → image.left ≡ Some [] → script.left ≡ Some [] → P text bytes) → OfGiven image script P
-  of_read make =
-      of_both script.told image.told (λ text. Reads text lines × (script.left ≡ Some [])) (λ bytes. (image_read false bytes ≡ Ok (head, cells)) × (image.left ≡ Some [])) P
-      read_script (subst (λ (old : Bool). ReadsImage old image.told image.left head cells) new read_image)
-      (λ text bytes s i. make text bytes (record { is_script = s.0; is_image = i.0 }) i.1 s.1)
+pub flush_failed : {E : Type 0} (result : Result (Unit {0}) E) (old new : List Event) → true ≡ is_err result → Flushed result old new → new ≡ old ++ failed ∷ []
+flush_failed (Ok x) old new is flushes = absurd (false≢true (sym is))
+flush_failed (Err e) old new is flushes = flushes
 
-module _ (image script : Input) (out : Output) where
-  pub run_cut_off : (lines : List Line) (head : ImageHead) (cells : List ℕ) (is_old : Bool) → is_old ≡ false → ReadsAll script.told script.left lines → ReadsImage is_old image.told image.left head cells
-      → RunsImageFront head cells lines out.written out.written_after → OfGiven image script (IsRunCutOff out)
-  run_cut_off lines head cells is_old new read_script read_image runs =
-      of_read image script (IsRunCutOff out) lines head cells is_old new read_script read_image
-      (λ text bytes given image_end script_end. record { lines = lines; head = head; cells = cells; given = given; runs = runs })
+pub flush_worked : {E : Type 0} (result : Result (Unit {0}) E) (old new : List Event) → false ≡ is_err result → Flushed result old new → new ≡ old ++ flushed ∷ []
+flush_worked (Ok x) old new is flushes = flushes
+flush_worked (Err e) old new is flushes = absurd (false≢true is)
 
-  pub image_full : (lines : List Line) (head : ImageHead) (cells : List ℕ) (is_old : Bool) → is_old ≡ false → ReadsAll script.told script.left lines → ReadsImage is_old image.told image.left head cells
-      → IsFull head cells → GaveLine out no_spare → OfGiven image script (IsBadImage out)
-  image_full lines head cells is_old new read_script read_image full line =
-      of_read image script (IsBadImage out) lines head cells is_old new read_script read_image (λ text bytes given image_end script_end. record {
-        lines = lines;
-        is_script = given.is_script;
-        refused = inr (record { head = head; cells = cells; is_image = given.is_image; full = full; line = line });
-      })
+-- ---- what was read
 
-  module _ (image_out : Output) where
-    pub run_done : (lines : List Line) (head : ImageHead) (cells : List ℕ) (is_old : Bool) → is_old ≡ false → ReadsAll script.told script.left lines → ReadsImage is_old image.told image.left head cells
-        → (last : DieState) (left : List ℕ) → RunsImage head cells lines out.written out.written_after last → HasCells left last
-        → Appends image_out.written image_out.written_after (image_of head left) → OfGiven image script (IsRun image script out image_out)
-    run_done lines head cells is_old new read_script read_image last left runs has written =
-        of_read image script (IsRun image script out image_out) lines head cells is_old new read_script read_image (λ text bytes given image_end script_end. record {
-          all = record { lines = lines; head = head; cells = cells; given = given; last = last; runs = runs; left = left; last_cells = has };
-          written = written;
-          at_end = record { image_end = image_end; script_end = script_end };
-        })
+pub record Read (image script : Input) (lines : List Line) (head : ImageHead) (cells : List ℕ) : Type 0 where
+  pub is_old : Bool
+  pub new : is_old ≡ false
+  pub is_script : ReadsAll script.before script.after lines
+  pub is_image : ReadsImage is_old image.before image.after head cells
 
-    pub image_cut_off : (lines : List Line) (head : ImageHead) (cells : List ℕ) (is_old : Bool) → is_old ≡ false → ReadsAll script.told script.left lines → ReadsImage is_old image.told image.left head cells
-        → (last : DieState) (left : List ℕ) → RunsImage head cells lines out.written out.written_after last → HasCells left last
-        → AppendsFront image_out.written image_out.written_after (image_of head left) → OfGiven image script (IsImageCutOff out image_out)
-    image_cut_off lines head cells is_old new read_script read_image last left runs has written =
-        of_read image script (IsImageCutOff out image_out) lines head cells is_old new read_script read_image (λ text bytes given image_end script_end. record {
-          all = record { lines = lines; head = head; cells = cells; given = given; last = last; runs = runs; left = left; last_cells = has };
-          written = written;
-        })
+module _ (image script : Input) (out : Output) (lines : List Line) (head : ImageHead) (cells : List ℕ) (read : Read image script lines head cells) where
+  are_given : AreGiven image script lines head cells
+  are_given = record {
+    is_script = read.is_script;
+    is_image = subst (λ (is_old : Bool). ReadsImage is_old image.before image.after head cells) read.new read.is_image;
+  }
+
+  pub run_cut_off : RunsImageFront head cells lines out.before out.after → WriteFailed out → IsRunCutOff image script out
+  run_cut_off runs failed = inl (record { lines = lines; head = head; cells = cells; are_given = are_given; runs = runs; failed = failed })
+
+  pub image_full : IsFull head cells → GaveLine out no_spare → IsBadImage image script out
+  unfolding are_given
+  image_full full line = record {
+    lines = lines;
+    is_script = read.is_script;
+    refused = inr (record { head = head; cells = cells; is_image = are_given.is_image; full = full; line = line });
+  }
+
+  -- all lines were run
+  module _ (given : List Event) (last : DieState) (runs : RunsImage head cells lines out.before given last) where
+    all_run : AllRun image script out given
+    all_run = record { lines = lines; head = head; cells = cells; are_given = are_given; last = last; runs = runs }
+
+    pub not_handed_on : out.after ≡ given ++ failed ∷ [] → IsRunCutOff image script out
+    not_handed_on stops = inr (given, all_run, stops)
+
+    pub run_done : (image_out : Output) (left : List ℕ) → HasCells left last → out.after ≡ given ++ flushed ∷ [] → Took image_out (image_pieces head left) → IsRun image script out image_out
+    unfolding all_run
+    run_done image_out left has handed_on written = record { given = given; all = all_run; handed_on = handed_on; left = left; last_cells = has; written = written }
+
+    pub image_cut_off : (image_out : Output) (left : List ℕ) → HasCells left last → out.after ≡ given ++ flushed ∷ [] → TookPart image_out (image_pieces head left) → IsImageCutOff image script out image_out
+    unfolding all_run
+    image_cut_off image_out left has handed_on written = record { given = given; all = all_run; handed_on = handed_on; left = left; last_cells = has; written = written }

@@ -13,6 +13,7 @@ use Rattle.die_image.specs.Image.{shape_of, die_bytes, AreCells}
 use Rattle.die_image.specs.Pads.{is_pad_charged}
 use Rattle.die_image.proofs.NoPad.{no_pad, none_charged}
 use Rattle.rssd_core.specs.DeviceValue.{Numbers}
+use Rattle.rssd_io.specs.Event.{Event as Act}
 use Rattle.rssd_script.specs.declared.lines.Line.{Line}
 use Rattle.rssd_run.specs.View.{View, Event}
 use Rattle.rssd_run.specs.Run.{IsRun, CalmFor}
@@ -53,8 +54,8 @@ sizes_are : (head : ImageHead) → page_count (shape_of head) * page_bytes (shap
 unfolding die_bytes
 sizes_are head = refl
 
-module _ (head : ImageHead) (cells left : List ℕ) (last : DieState) (lines : List Line) (written written_after : Option (List ℕ))
-    (given : RunsImage head cells lines written written_after last) (are : AreCells head cells) (calm : CalmFor (numbers_named head) given.die lines) where
+module _ (head : ImageHead) (cells left : List ℕ) (last : DieState) (lines : List Line) (log log_after : List Act)
+    (given : RunsImage head cells lines log log_after last) (are : AreCells head cells) (calm : CalmFor (numbers_named head) given.die lines) where
   abbrev None : List (List ℕ) → Type 0
   None pages = NoPadCharged (shape_of head) pages
 
@@ -67,7 +68,7 @@ module _ (head : ImageHead) (cells left : List ℕ) (last : DieState) (lines : L
 
   none_last : None last.cells
   none_last =
-      let to : RunsTo (numbers_named head) given.runs.before lines written written_after last = given.runs.run calm in
+      let to : RunsTo (numbers_named head) given.runs.before lines log log_after last = given.runs.run calm in
       subst (λ (die : DieState). None die.cells) to.die
       (subst (λ (s : Shape). NoPadCharged s to.after.device.die.cells) (named_shape head)
       (stays_uncharged (numbers_named head) given.runs.before to.run.events to.after to.run.run none_before))

@@ -17,14 +17,14 @@ use Rattle.rssd_run.specs.View.{Event, NoFailure}
 use Rattle.rssd_run.specs.Held.{Tallies, plus, on}
 use Rattle.rssd_run.specs.Armed.{form_of_word}
 use Rattle.rssd_run.specs.Step.{IsStep}
-use Rattle.rssd_run.proofs.Came.{went_lowers, none_came, AReadCame, read_came, read_rose, passed_went}
+use Rattle.rssd_run.proofs.Came.{went_lowers, none_came, AReadCame, read_came, read_rose, passed_went, went_tells, went_power, read_failed_tells}
 use Rattle.rssd_run.proofs.Parts.{not_refused, no_fault}
-use Rattle.rssd_run.proofs.Still.{keeps_cells, same_book, same_seq, armed_cut_none, armed_read_none}
+use Rattle.rssd_run.proofs.Still.{keeps_cells, same_book, same_seq, armed_cut_none, armed_read_none, still_tells, still_powered}
 use Rattle.rssd_run.proofs.WriteSteps.{event_of}
 
-pub cut_step : (d : Numbers) (base : Tallies) (old : DeviceValue) (n : ℕ) (torn : TornWord) → 1 ≤ n → old.stopped ≡ false → TrueWhileRunning d old
+pub cut_step : (d : Numbers) (base : Tallies) (old : DeviceValue) (n : ℕ) (torn : TornWord) → 1 ≤ n → old.stopped ≡ false → TellsPower old.view.die → TrueWhileRunning d old
     → IsStep d (event_of (Cut n torn) Done (on d base old) (on d base (with_die (told (with_cut n (form_of_word torn))) old)))
-cut_step d base old n torn some running book =
+cut_step d base old n torn some running power book =
     let new : DeviceValue = with_die (told (with_cut n (form_of_word torn))) old in
     let e : Event = event_of (Cut n torn) Done (on d base old) (on d base new) in
     let none : NoFailure e = armed_cut_none n (form_of_word torn) some old.view.die.failures in
@@ -34,7 +34,7 @@ cut_step d base old n torn some running book =
       stands_before = refl;
       stands_after = refl;
       off = λ h. cc;
-      keeps = keeps_cells d (plus base old.view) (plus base new.view) refl same;
+      keeps = keeps_cells d (plus base old.view) (plus base new.view) refl same (still_tells (with_cut n (form_of_word torn)) (λ failures. refl) old.view.die.failures);
       placed = λ s b t. absurd (let l = t.write in cc);
       fault = no_fault e (λ h. cc) none;
       answers = record {
@@ -48,11 +48,12 @@ cut_step d base old n torn some running book =
       true_book = λ h. book running;
       moves = (record { book = same_book d (plus base old.view) (plus base new.view) refl refl (omega arith) (λ c. tt) refl refl; seq = same_seq d (plus base old.view) (plus base new.view) refl refl }, tt);
       armed = record { arms = refl; lowers = λ not. absurd (not tt); fault = λ h. cc };
+      power = λ on tells. still_powered (with_cut n (form_of_word torn)) (λ failures. refl) old.view.die.failures power;
     }
 
-pub fail_read_step : (d : Numbers) (base : Tallies) (old : DeviceValue) (n : ℕ) → 1 ≤ n → old.stopped ≡ false → TrueWhileRunning d old
+pub fail_read_step : (d : Numbers) (base : Tallies) (old : DeviceValue) (n : ℕ) → 1 ≤ n → old.stopped ≡ false → TellsPower old.view.die → TrueWhileRunning d old
     → IsStep d (event_of (FailRead n) Done (on d base old) (on d base (with_die (told (with_read_failure n)) old)))
-fail_read_step d base old n some running book =
+fail_read_step d base old n some running power book =
     let new : DeviceValue = with_die (told (with_read_failure n)) old in
     let e : Event = event_of (FailRead n) Done (on d base old) (on d base new) in
     let none : NoFailure e = armed_read_none n some old.view.die.failures in
@@ -62,7 +63,7 @@ fail_read_step d base old n some running book =
       stands_before = refl;
       stands_after = refl;
       off = λ h. cc;
-      keeps = keeps_cells d (plus base old.view) (plus base new.view) refl same;
+      keeps = keeps_cells d (plus base old.view) (plus base new.view) refl same (still_tells (with_read_failure n) (λ failures. refl) old.view.die.failures);
       placed = λ s b t. absurd (let l = t.write in cc);
       fault = no_fault e (λ h. cc) none;
       answers = record {
@@ -76,6 +77,7 @@ fail_read_step d base old n some running book =
       true_book = λ h. book running;
       moves = (record { book = same_book d (plus base old.view) (plus base new.view) refl refl (omega arith) (λ c. tt) refl refl; seq = same_seq d (plus base old.view) (plus base new.view) refl refl }, tt);
       armed = record { arms = refl; lowers = λ not. absurd (not tt); fault = λ h. cc };
+      power = λ on tells. still_powered (with_read_failure n) (λ failures. refl) old.view.die.failures power;
     }
 
 pub read_step : (d : Numbers) (base : Tallies) (old : DeviceValue) (die : DieState) (sector : ℕ) (bytes : List ℕ) → sector < d.geometry.sectors → old.stopped ≡ false
@@ -94,7 +96,7 @@ read_step d base old die sector bytes in_range running power book shape same pas
       stands_before = refl;
       stands_after = refl;
       off = λ h. cc;
-      keeps = keeps_cells d (plus base old.view) (plus base new.view) shape same;
+      keeps = keeps_cells d (plus base old.view) (plus base new.view) shape same (went_tells old.view.die die went);
       placed = λ s b t. absurd (let l = t.write in cc);
       fault = no_fault e (λ h. cc) none;
       answers = record {
@@ -108,6 +110,7 @@ read_step d base old die sector bytes in_range running power book shape same pas
       true_book = λ h. book running;
       moves = (record { book = same_book d (plus base old.view) (plus base new.view) refl refl (omega arith) (λ c. tt) refl refl; seq = same_seq d (plus base old.view) (plus base new.view) refl same.cells }, tt);
       armed = record { arms = tt; lowers = λ a f. lowers; fault = λ h. cc };
+      power = λ on tells. went_power old.view.die die power went;
     }
 
 pub read_fault_step : (d : Numbers) (base : Tallies) (old : DeviceValue) (die : DieState) (sector : ℕ) → sector < d.geometry.sectors → old.stopped ≡ false
@@ -123,7 +126,7 @@ read_fault_step d base old die sector in_range running power book shape same fai
       stands_before = refl;
       stands_after = refl;
       off = λ h c. absurd c;
-      keeps = keeps_cells d (plus base old.view) (plus base new.view) shape same;
+      keeps = keeps_cells d (plus base old.view) (plus base new.view) shape same (read_failed_tells old.view.die die failed);
       placed = λ s b t. absurd (let l = t.write in cc);
       fault = record {
         came = (λ h. inr came.came, λ h. refl);
@@ -157,4 +160,5 @@ read_fault_step d base old die sector in_range running power book shape same fai
           read_came = λ read. (came.within, came.cut, came.form);
         };
       };
+      power = λ on tells. came.power;
     }

@@ -73,6 +73,7 @@ mount_step d before new stands small tells m =
     let powered : DieState = told with_power before.device.die in
     let same : SameCells before.device.die die = record { cells = m.cells.cells; erases = m.cells.erases } in
     let went : Went 0 (page_count d.geometry) ⊥ powered die = passed_went m.calls in
+    let power : TellsPower die = went_power powered die (power_given before.device.die tells) went in
     let lowers : Lowers 0 (page_count d.geometry) ⊥ before.device.die die = lowers_powered before.device.die die (went_lowers powered die (power_given before.device.die tells) went) in
     let none : NoFailure e = none_came before.device.die die lowers in
     let rows : rows_of d before.device ≡ rows_of d after.device = rw same.cells refl in
@@ -83,7 +84,7 @@ mount_step d before new stands small tells m =
       stands_before = stands;
       stands_after = refl;
       off = λ h. cc;
-      keeps = keeps_cells d before.device after.device m.kept.shape same;
+      keeps = keeps_cells d before.device after.device m.kept.shape same (λ t. power_tells die power);
       placed = λ s b t. absurd (let l = t.write in cc);
       fault = no_fault e (λ h. cc) none;
       answers = record {
@@ -97,6 +98,7 @@ mount_step d before new stands small tells m =
       true_book = λ on. m.true_book m.running;
       moves = (mounted_plus d (tallies_of before.device) new.view m.mounted, omega (arith, small, m.counts.moved));
       armed = record { arms = tt; lowers = λ a f. lowers; fault = λ h. cc };
+      power = λ on t. power;
     }
 
 read_came_powered : {changes reads : ℕ} (die new : DieState) → AReadCame changes reads (told with_power die) new → AReadCame changes reads die new
@@ -127,7 +129,7 @@ mount_fault_step d before die stands small_first small_second small_declined sma
       stands_before = stands;
       stands_after = refused_stands before.array (rows_of d after.device) still;
       off = λ h c. absurd c;
-      keeps = keeps_cells d before.device after.device shape same;
+      keeps = keeps_cells d before.device after.device shape same (λ t. power_tells die came.power);
       placed = λ s b t. absurd (let l = t.write in cc);
       fault = record {
         came = (λ h. inr came.came, λ h. refl);
@@ -161,6 +163,7 @@ mount_fault_step d before die stands small_first small_second small_declined sma
           read_came = λ read. (came.within, came.cut, came.form);
         };
       };
+      power = λ on. absurd (refused_off before.array on);
     }
 
 pub no_spare_step : (d : Numbers) (before : View) (die : DieState) → StandsFor d before → before.device.first < 2 ^ 64 → before.device.second < 2 ^ 64 → before.device.declined < 2 ^ 64 → before.device.moved < 2 ^ 64
@@ -180,7 +183,7 @@ no_spare_step d before die stands small_first small_second small_declined small 
       stands_before = stands;
       stands_after = refused_stands before.array (rows_of d after.device) still;
       off = λ h. cc;
-      keeps = keeps_cells d before.device after.device shape same;
+      keeps = keeps_cells d before.device after.device shape same (λ t. power_tells die (went_power powered die (power_given before.device.die tells) went));
       placed = λ s b t. absurd (let l = t.write in cc);
       fault = no_fault e (λ h. cc) none;
       answers = record {
@@ -200,6 +203,7 @@ no_spare_step d before die stands small_first small_second small_declined small 
         tt,
       );
       armed = record { arms = tt; lowers = λ a f. lowers; fault = λ h. cc };
+      power = λ on. absurd (refused_off before.array on);
     }
 
 pub no_memory_step : (d : Numbers) (before : View) → StandsFor d before → before.device.first < 2 ^ 64 → before.device.second < 2 ^ 64 → before.device.declined < 2 ^ 64 → before.device.moved < 2 ^ 64
@@ -216,7 +220,7 @@ no_memory_step d before stands small_first small_second small_declined small =
       stands_before = stands;
       stands_after = refused_stands before.array (rows_of d after.device) stands;
       off = λ h. cc;
-      keeps = keeps_cells d before.device after.device refl same;
+      keeps = keeps_cells d before.device after.device refl same (λ t. power_tells die (power_given before.device.die t));
       placed = λ s b t. absurd (let l = t.write in cc);
       fault = no_fault e (λ h. cc) none;
       answers = record {
@@ -236,6 +240,7 @@ no_memory_step d before stands small_first small_second small_declined small =
         tt,
       );
       armed = record { arms = tt; lowers = λ a f. lowers; fault = λ h. cc };
+      power = λ on. absurd (refused_off before.array on);
     }
 
 pub mounts_done : (d : Numbers) (die : DieState) (new : DeviceValue) → die.shape ≡ shape_of d.geometry → Mounts d (told with_power die) new → Tells die → MountDone d die new

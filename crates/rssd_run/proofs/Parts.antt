@@ -4,6 +4,7 @@ use Rattle.cell_die.proofs.Sequences.{never_falls_refl}
 use Rattle.rssd_script.specs.declared.replies.Reply.TheVariants.{Range, Long, Off as SaysOff, Fault, Spent}
 use Rattle.rssd_core.specs.BookChanges.{Change}
 use Rattle.rssd_core.specs.DeviceValue.{Numbers, DeviceView, DeviceValue}
+use Rattle.rssd_core.specs.Failures.{Tells}
 use Rattle.rssd_core.specs.Moves.{MovesBook, MovesSeq}
 use Rattle.rssd_core.specs.Outcomes.{Holds}
 use Rattle.rssd_run.specs.ArrayWithCuts.{ArrayState, On, Off}
@@ -31,11 +32,11 @@ no_fault e reply none = record {
   rose = λ h. absurd (reply h);
 }
 
-pub keeps : (d : Numbers) (base : Tallies) (old new : DeviceValue) → Holds d old new → KeepsDie d (plus base old.view) (plus base new.view)
-keeps d base old new holds = record { shape = holds.kept.shape; never_falls = holds.kept.never_falls; no_pad = holds.no_pad; sound = holds.sound }
+pub keeps : (d : Numbers) (base : Tallies) (old new : DeviceValue) → Holds d old new → (Tells old.view.die → Tells new.view.die) → KeepsDie d (plus base old.view) (plus base new.view)
+keeps d base old new holds tells = record { shape = holds.kept.shape; tells = tells; never_falls = holds.kept.never_falls; no_pad = holds.no_pad; sound = holds.sound }
 
 pub keeps_same : (d : Numbers) (view : DeviceView) → KeepsDie d view view
-keeps_same d view = record { shape = refl; never_falls = never_falls_refl view.die; no_pad = λ h. h; sound = λ h. h }
+keeps_same d view = record { shape = refl; tells = λ h. h; never_falls = never_falls_refl view.die; no_pad = λ h. h; sound = λ h. h }
 
 -- the book moves so under the session's tallies too, and a rise at a cut is one
 pub plus_book : (d : Numbers) (base : Tallies) (old new : DeviceView) {May : List Change → Type 0} {Rises : List Change → ℕ → Type 0} {AtCut Then : ℕ → Type 0}

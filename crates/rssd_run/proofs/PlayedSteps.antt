@@ -23,10 +23,10 @@ use Rattle.rssd_run.specs.Placing.{IsTried, PlacedExactly}
 use Rattle.rssd_run.specs.Step.{IsStep}
 use Rattle.rssd_run.specs.Played.{IsPlayed, WroteSo, WriteFailed, ReadSo, ReadWithFault, TrimmedSo, TrimFailed, PlacedSo, PlayedBook, IsPlayedStep}
 use Rattle.rssd_core.specs.Outcomes.{Holds, Idled, IdleFault}
-use Rattle.rssd_run.proofs.Came.{change_rose, read_rose}
+use Rattle.rssd_run.proofs.Came.{change_rose, read_rose, passed_went, went_tells, change_failed_tells, read_failed_tells}
 use Rattle.rssd_run.proofs.Parts.{not_refused, keeps, plus_book, plus_seq}
 use Rattle.rssd_run.proofs.Still.{keeps_cells, same_book, same_seq}
-use Rattle.rssd_run.proofs.CommandSteps.{moves_plus, unfinished_plus}
+use Rattle.rssd_run.proofs.CommandSteps.{moves_plus, unfinished_plus, bounded}
 use Rattle.rssd_run.proofs.WriteSteps.{event_of, sector_in, bytes_in, must_not, offered_both, over_plus, neither}
 
 -- ---- a step whose die tells its power is a played step too
@@ -34,7 +34,7 @@ use Rattle.rssd_run.proofs.WriteSteps.{event_of, sector_in, bytes_in, must_not, 
 loose_book : (d : Numbers) (old new : DeviceView) {May : List Change → Type 0} {Rises : List Change → ℕ → Type 0} {AtCut : ℕ → Type 0} → MovesBook d May Rises AtCut old new → MovesBook d May Rises (λ rise. Unit {0}) old new
 loose_book d old new book = record { changes = book.changes; leads = book.leads; may = book.may; rise = book.rise; rises = book.rises; tally = book.tally; at_cut = tt }
 
-played_book : (d : Numbers) (before after : View) (line : Line) (reply : Reply) → IsPlayed line → BookMoves d (event_of line reply before after) line reply → PlayedBook d (event_of line reply before after)
+pub played_book : (d : Numbers) (before after : View) (line : Line) (reply : Reply) → IsPlayed line → BookMoves d (event_of line reply before after) line reply → PlayedBook d (event_of line reply before after)
 played_book d before after (Write sector bytes) reply is m = record { book = loose_book d before.device after.device m.0.book; seq = m.0.seq; records = m.1 }
 played_book d before after (Read sector) reply is m = record { book = loose_book d before.device after.device m.0.book; seq = m.0.seq; records = m.1 }
 played_book d before after (Trim sector) reply is m = record { book = loose_book d before.device after.device m.0.book; seq = m.0.seq; records = m.1 }
@@ -104,7 +104,7 @@ played_first d base old new sector bytes a =
       stands_before = refl;
       stands_after = refl;
       off = λ h. cc;
-      keeps = keeps d base old new a.holds;
+      keeps = keeps d base old new a.holds (went_tells old.view.die new.view.die a.wrote.calls);
       placed = of_line d e sector bytes refl placed;
       cause = λ h. cc;
       refused = not_refused d e tt (λ h. omega (arith, a.in_range)) (λ h. omega (arith, a.fits)) (λ h. omega (arith, a.wrote.fresh)) (λ h. cc) (λ h. cc) (λ h. cc) (λ h. cc);
@@ -131,7 +131,7 @@ played_second d base old new sector bytes a =
       stands_before = refl;
       stands_after = refl;
       off = λ h. cc;
-      keeps = keeps d base old new a.holds;
+      keeps = keeps d base old new a.holds (went_tells old.view.die new.view.die a.wrote.calls);
       placed = of_line d e sector bytes refl placed;
       cause = λ h. cc;
       refused = not_refused d e tt (λ h. omega (arith, a.in_range)) (λ h. omega (arith, a.fits)) (λ h. omega (arith, a.wrote.fresh)) (λ h. cc) (λ h. cc) (λ h. cc) (λ h. cc);
@@ -158,7 +158,7 @@ played_declined d base old new sector bytes a =
       stands_before = refl;
       stands_after = refl;
       off = λ h. cc;
-      keeps = keeps d base old new a.holds;
+      keeps = keeps d base old new a.holds (went_tells old.view.die new.view.die a.wrote.calls);
       placed = of_line d e sector bytes refl placed;
       cause = λ h. cc;
       refused = not_refused d e tt (λ h. omega (arith, a.in_range)) (λ h. omega (arith, a.fits)) (λ h. omega (arith, a.wrote.fresh)) (λ h. cc) (λ h. cc) (λ h. cc) (λ h. cc);
@@ -178,7 +178,7 @@ played_write_read_fault d base old new sector bytes a f =
       stands_before = refl;
       stands_after = refl;
       off = λ h c. record { only = λ off. absurd off; always = λ on more. omega (arith, f.failed.change_faults, more) };
-      keeps = keeps d base old new a.holds;
+      keeps = keeps d base old new a.holds (read_failed_tells old.view.die new.view.die f.failed);
       placed = of_line d e sector bytes refl (not_placed d e sector (filled_up d.geometry.sector_bytes bytes) refl);
       cause = λ h. read_rose old.view.die new.view.die f.failed;
       refused = not_refused d e tt (λ h. omega (arith, a.in_range)) (λ h. omega (arith, a.fits)) (λ h. omega (arith, a.fault.fresh)) (λ h. cc) (λ h. cc) (λ h. cc) (λ h. cc);
@@ -198,7 +198,7 @@ played_write_change_fault d base old new sector bytes a sound f =
       stands_before = refl;
       stands_after = f.rows sound;
       off = λ h c. record { only = λ off. f.failed.change_faults; always = λ on. absurd on };
-      keeps = keeps d base old new a.holds;
+      keeps = keeps d base old new a.holds (change_failed_tells old.view.die new.view.die f.failed);
       placed = of_line d e sector bytes refl (not_placed d e sector (filled_up d.geometry.sector_bytes bytes) refl);
       cause = λ h. change_rose old.view.die new.view.die f.failed;
       refused = not_refused d e tt (λ h. omega (arith, a.in_range)) (λ h. omega (arith, a.fits)) (λ h. omega (arith, a.fault.fresh)) (λ h. cc) (λ h. cc) (λ h. cc) (λ h. cc);
@@ -220,7 +220,7 @@ played_trim d base old new sector a =
       stands_before = refl;
       stands_after = refl;
       off = λ h. cc;
-      keeps = keeps d base old new a.holds;
+      keeps = keeps d base old new a.holds (went_tells old.view.die new.view.die a.trimmed.calls);
       placed = λ s b t. absurd (let l = t.write in cc);
       cause = λ h. cc;
       refused = not_refused d e tt (λ h. omega (arith, a.in_range)) (λ h. h) (λ h. omega (arith, a.trimmed.fresh, h)) (λ h. cc) (λ h. cc) (λ h. cc) (λ h. cc);
@@ -240,7 +240,7 @@ played_trim_read_fault d base old new sector a f =
       stands_before = refl;
       stands_after = refl;
       off = λ h c. record { only = λ off. absurd off; always = λ on more. omega (arith, f.failed.change_faults, more) };
-      keeps = keeps d base old new a.holds;
+      keeps = keeps d base old new a.holds (read_failed_tells old.view.die new.view.die f.failed);
       placed = λ s b t. absurd (let l = t.write in cc);
       cause = λ h. read_rose old.view.die new.view.die f.failed;
       refused = not_refused d e tt (λ h. omega (arith, a.in_range)) (λ h. h) (λ h. omega (arith, a.fault.fresh, h)) (λ h. cc) (λ h. cc) (λ h. cc) (λ h. cc);
@@ -260,7 +260,7 @@ played_trim_change_fault d base old new sector a sound f =
       stands_before = refl;
       stands_after = f.rows sound;
       off = λ h c. record { only = λ off. f.failed.change_faults; always = λ on. absurd on };
-      keeps = keeps d base old new a.holds;
+      keeps = keeps d base old new a.holds (change_failed_tells old.view.die new.view.die f.failed);
       placed = λ s b t. absurd (let l = t.write in cc);
       cause = λ h. change_rose old.view.die new.view.die f.failed;
       refused = not_refused d e tt (λ h. omega (arith, a.in_range)) (λ h. h) (λ h. omega (arith, a.fault.fresh, h)) (λ h. cc) (λ h. cc) (λ h. cc) (λ h. cc);
@@ -282,7 +282,7 @@ played_idle d base old new n k holds w =
       stands_before = refl;
       stands_after = refl;
       off = λ h. cc;
-      keeps = keeps d base old new holds;
+      keeps = keeps d base old new holds (went_tells old.view.die new.view.die (bounded w.calls));
       placed = λ s b t. absurd (let l = t.write in cc);
       cause = λ h. cc;
       refused = not_refused d e tt (λ h. h) (λ h. h) (λ h. h) (λ h. cc) (λ h. cc) (λ h. cc) (λ h. cc);
@@ -302,7 +302,7 @@ played_idle_read_fault d base old new n holds w f =
       stands_before = refl;
       stands_after = refl;
       off = λ h c. record { only = λ off. absurd off; always = λ on more. omega (arith, f.failed.change_faults, more) };
-      keeps = keeps d base old new holds;
+      keeps = keeps d base old new holds (read_failed_tells old.view.die new.view.die f.failed);
       placed = λ s b t. absurd (let l = t.write in cc);
       cause = λ h. read_rose old.view.die new.view.die f.failed;
       refused = not_refused d e tt (λ h. h) (λ h. h) (λ h. h) (λ h. cc) (λ h. cc) (λ h. cc) (λ h. cc);
@@ -322,7 +322,7 @@ played_idle_change_fault d base old new n holds w sound f =
       stands_before = refl;
       stands_after = f.rows sound;
       off = λ h c. record { only = λ off. f.failed.change_faults; always = λ on. absurd on };
-      keeps = keeps d base old new holds;
+      keeps = keeps d base old new holds (change_failed_tells old.view.die new.view.die f.failed);
       placed = λ s b t. absurd (let l = t.write in cc);
       cause = λ h. change_rose old.view.die new.view.die f.failed;
       refused = not_refused d e tt (λ h. h) (λ h. h) (λ h. h) (λ h. cc) (λ h. cc) (λ h. cc) (λ h. cc);
@@ -347,7 +347,7 @@ played_read d base old new sector bytes a runs =
       stands_before = refl;
       stands_after = refl;
       off = λ h. cc;
-      keeps = keeps_cells d (plus base old.view) (plus base new.view) a.holds.kept.shape same;
+      keeps = keeps_cells d (plus base old.view) (plus base new.view) a.holds.kept.shape same (went_tells old.view.die new.view.die (passed_went {Bounded = ⊥} a.calls));
       placed = λ s b t. absurd (let l = t.write in cc);
       cause = λ h. cc;
       refused = not_refused d e tt (λ h. omega (arith, a.in_range)) (λ h. h) (λ h. h) (λ h. cc) (λ h. cc) (λ h. cc) (λ h. cc);
@@ -374,7 +374,7 @@ played_read_fault d base old new sector a runs =
       stands_before = refl;
       stands_after = refl;
       off = λ h c. absurd c;
-      keeps = keeps_cells d (plus base old.view) (plus base new.view) a.holds.kept.shape same;
+      keeps = keeps_cells d (plus base old.view) (plus base new.view) a.holds.kept.shape same (read_failed_tells old.view.die new.view.die a.failed);
       placed = λ s b t. absurd (let l = t.write in cc);
       cause = λ h. read_rose old.view.die new.view.die a.failed;
       refused = not_refused d e tt (λ h. omega (arith, a.in_range)) (λ h. h) (λ h. h) (λ h. cc) (λ h. cc) (λ h. cc) (λ h. cc);

@@ -6,6 +6,7 @@ use Rattle.rssd_script.specs.declared.replies.Reply.{Reply}
 use Rattle.rssd_script.specs.declared.replies.Reply.TheVariants.{Range, Long, Spent, Off as SaysOff, Fault, NoSpare, Stat as Counts}
 use Rattle.rssd_core.specs.SectorArray.{filled_up}
 use Rattle.rssd_core.specs.DeviceValue.{Numbers, DeviceView, DeviceValue}
+use Rattle.rssd_core.specs.Failures.{Tells, TellsPower}
 use Rattle.rssd_run.specs.ArrayWithCuts.{ArrayState, On, Off, Row}
 use Rattle.rssd_run.specs.View.{View, Event, StandsFor, NoFailure, IsOn, IsOff, erased}
 use Rattle.rssd_run.specs.Held.{Tallies, on, off}
@@ -37,9 +38,13 @@ pub record Stays (d : Numbers) (v : View) (line : Line) (reply : Reply) : Type 0
   pub calls : (change_calls d v.device line reply ≡ 0) × (read_calls d v.device line reply ≡ 0)
   pub placed : (sector : ℕ) (bytes : List ℕ) → IsTried d (event_of line reply v v) sector bytes → PlacedExactly d (event_of line reply v v) sector (filled_up d.geometry.sector_bytes bytes)
 
-pub stays_step : (d : Numbers) (v : View) (line : Line) (reply : Reply) → StandsFor d v → TrueWhileOn d v
+-- while the session is on its die, if it tells, has power
+abbrev pub PoweredWhileOn : View → Type 0
+PoweredWhileOn v = IsOn v.array → Tells v.device.die → TellsPower v.device.die
+
+pub stays_step : (d : Numbers) (v : View) (line : Line) (reply : Reply) → StandsFor d v → TrueWhileOn d v → PoweredWhileOn v
     → v.device.first < 2 ^ 64 → v.device.second < 2 ^ 64 → v.device.declined < 2 ^ 64 → Stays d v line reply → IsStep d (event_of line reply v v)
-stays_step d v line reply stands book small_first small_second small_declined s =
+stays_step d v line reply stands book power small_first small_second small_declined s =
     let e : Event = event_of line reply v v in
     let none : NoFailure e = none_came v.device.die v.device.die (lowers_none {Bounded = ⊥} v.device.die) in
     record {
@@ -61,6 +66,7 @@ stays_step d v line reply stands book small_first small_second small_declined s 
       true_book = book;
       moves = s.moves;
       armed = record { arms = s.arms; lowers = λ a f. rw s.calls.0 (rw s.calls.1 (lowers_none v.device.die)); fault = λ h. absurd (s.no_fault h) };
+      power = power;
     }
 
 -- nothing moves
@@ -110,7 +116,7 @@ is_spent d e here near few spent reply = record {
 -- a line that leaves each view as it is
 pub still_steps : (d : Numbers) (old : DeviceValue) → IsKept d old → old.stopped ≡ false → (line : Line) (reply : Reply) → ((base : Tallies) → Stays d (on d base old) line reply) → Steps d line reply old old
 still_steps d old kept running line reply stays =
-    runs_on d line reply old old kept running (λ calm base. stays_step d (on d base old) line reply refl (λ o. kept.book running) (omega arith) (omega arith) (omega arith) (stays base))
+    runs_on d line reply old old kept running (λ calm base. stays_step d (on d base old) line reply refl (λ o. kept.book running) (λ o tells. kept.power running) (omega arith) (omega arith) (omega arith) (stays base))
 
 module _ (d : Numbers) (old : DeviceValue) (base : Tallies) where
   pub write_range : (sector : ℕ) (bytes : List ℕ) → d.geometry.sectors ≤ sector → Stays d (on d base old) (Write sector bytes) Range
@@ -253,7 +259,7 @@ off_stays d v Stat small never = absurd (never tt)
 pub off_step : (d : Numbers) (v : View) (line : Line) → StandsFor d v → IsOff v.array → IsSmall v.device → (AlwaysAnswered line → ⊥) → IsStep d (event_of line SaysOff v v)
 off_step d v line stands here small never =
     let rest = off_stays d v line small.moved never in
-    stays_step d v line SaysOff stands (λ on. absurd (not_on v.array here on)) small.first small.second small.declined (record {
+    stays_step d v line SaysOff stands (λ on. absurd (not_on v.array here on)) (λ on. absurd (not_on v.array here on)) small.first small.second small.declined (record {
       row = off_row d.geometry.sector_bytes v.array line here never;
       refused = is_off d (event_of line SaysOff v v) here never refl;
       no_fault = λ h. cc;
@@ -272,9 +278,9 @@ stat_row : (size : ℕ) (array : ArrayState) (first second declined moved erases
 stat_row size (On rows) first second declined moved erases = refl
 stat_row size (Off a b) first second declined moved erases = refl
 
-pub stat_step : (d : Numbers) (v : View) → StandsFor d v → TrueWhileOn d v → IsSmall v.device → IsStep d (event_of Stat (stat_of v) v v)
-stat_step d v stands book small =
-    stays_step d v Stat (stat_of v) stands book small.first small.second small.declined (record {
+pub stat_step : (d : Numbers) (v : View) → StandsFor d v → TrueWhileOn d v → PoweredWhileOn v → IsSmall v.device → IsStep d (event_of Stat (stat_of v) v v)
+stat_step d v stands book power small =
+    stays_step d v Stat (stat_of v) stands book power small.first small.second small.declined (record {
       row = stat_row d.geometry.sector_bytes v.array v.device.first v.device.second v.device.declined v.device.moved (erased v);
       refused = never_refused d (event_of Stat (stat_of v) v v) tt (λ h. h) (λ h. h) (λ h. h) (λ h. cc) (λ h. cc) (λ h. cc) (λ h. cc);
       no_fault = λ h. cc;

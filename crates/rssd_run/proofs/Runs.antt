@@ -1,13 +1,14 @@
 -- Runs grow by one step at their end, and stay calm.
 use Rattle.std.proofs.Common.{◌≡◌, ◌⊎◌, inl, inr, ℕ, ◌+◌, false, List, [], ◌∷◌, ◌++◌, All, length, take, Option, None, Some, suc, refl, arith, sym, ap, ◌∙◌, append_assoc}
-use Rattle.std.specs.Io.KnownBytes.{Appends}
 use Rattle.std.proofs.lemmas.List.{append-nil}
-use Rattle.rssd_io.proofs.Appending.{appends_more, appends_none}
 use Rattle.cell_die.specs.DieState.{DieState, Failures}
 use Rattle.cell_die.specs.Power.{with_read_failure}
 use Rattle.std.specs.Option.{option_map}
 use Rattle.rssd_core.specs.DeviceValue.{Numbers}
 use Rattle.rssd_core.specs.Failures.{cut_of, cut_in}
+use Rattle.rssd_io.specs.Event.{Event as Act, moved, failed}
+use Rattle.rssd_io.specs.Pieces.{all_given}
+use Rattle.rssd_io.proofs.Logs.{given_append}
 use Rattle.rssd_script.specs.declared.lines.Line.{Line}
 use Rattle.rssd_script.specs.declared.lines.Line.TheVariants.{Write, Read, Trim, Idle, Cut, FailRead, Mount, Stat}
 use Rattle.rssd_script.specs.declared.replies.Reply.{Reply}
@@ -17,7 +18,7 @@ use Rattle.rssd_run.specs.View.{View, Event}
 use Rattle.rssd_run.specs.Armed.{IsArming}
 use Rattle.rssd_run.specs.Step.{IsStep}
 use Rattle.rssd_run.specs.Held.{Calm}
-use Rattle.rssd_run.specs.Run.{IsRun, lines_of, output_of, RunOf, RunCutOff, is_cut, CalmFor}
+use Rattle.rssd_run.specs.Run.{IsRun, lines_of, pieces_of, RunOf, RunCutOff, is_cut, CalmFor}
 
 pub run_none : (d : Numbers) (view : View) → IsRun d view [] view
 unfolding IsRun
@@ -32,31 +33,32 @@ lines_more : (events : List Event) (e : Event) → lines_of (events ++ e ∷ [])
 lines_more [] e = refl
 lines_more (first ∷ events) e = ap (λ rest. first.line ∷ rest) (lines_more events e)
 
-output_more : (events : List Event) (e : Event) → output_of (events ++ e ∷ []) ≡ output_of events ++ reply_line e.reply
-output_more [] e = append-nil (reply_line e.reply)
-output_more (first ∷ events) e = ap (λ rest. reply_line first.reply ++ rest) (output_more events e) ∙ sym (append_assoc (reply_line first.reply) (output_of events) (reply_line e.reply))
+pieces_more : (events : List Event) (e : Event) → pieces_of (events ++ e ∷ []) ≡ pieces_of events ++ reply_line e.reply ∷ []
+pieces_more [] e = refl
+pieces_more (first ∷ events) e = ap (λ rest. reply_line first.reply ∷ rest) (pieces_more events e)
 
-pub run_of_none : (d : Numbers) (view : View) (written : Option (List ℕ)) → RunOf d view [] view written written
-run_of_none d view written = record { events = []; run = run_none d view; of_lines = refl; given = appends_none written }
+pub run_of_none : (d : Numbers) (view : View) (log : List Act) → RunOf d view [] view log log
+run_of_none d view log = record { events = []; run = run_none d view; of_lines = refl; given = sym (append-nil log) }
 
-module _ (d : Numbers) (before now after : View) (lines : List Line) (line : Line) (reply : Reply) (written between written_after : Option (List ℕ)) (r : RunOf d before lines now written between)
+module _ (d : Numbers) (before now after : View) (lines : List Line) (line : Line) (reply : Reply) (log between log_after : List Act) (r : RunOf d before lines now log between)
     (step : IsStep d (record { line = line; reply = reply; before = now; after = after })) where
   event : Event
   event = record { line = line; reply = reply; before = now; after = after }
 
   -- one line more, whose text was given
-  pub run_of_more : Appends between written_after (reply_line reply) → RunOf d before (lines ++ line ∷ []) after written written_after
+  pub run_of_more : log_after ≡ between ++ moved (reply_line reply) ∷ [] → RunOf d before (lines ++ line ∷ []) after log log_after
   run_of_more given =
       let e : Event = record { line = line; reply = reply; before = now; after = after } in
       record {
         events = r.events ++ e ∷ [];
         run = run_more d before r.events now e r.run refl step;
         of_lines = lines_more r.events e ∙ ap (λ ls. ls ++ line ∷ []) r.of_lines;
-        given = rw (output_more r.events e) (appends_more written between written_after (output_of r.events) (reply_line reply) r.given given);
+        given = given ∙ (ap (λ (xs : List Act). xs ++ moved (reply_line reply) ∷ []) r.given ∙ (append_assoc log (all_given (pieces_of r.events)) (moved (reply_line reply) ∷ [])
+            ∙ ap (λ (xs : List Act). log ++ xs) (sym (ap all_given (pieces_more r.events e) ∙ given_append (pieces_of r.events) (reply_line reply ∷ [])))));
       }
 
   -- one line more, of whose text a front was given
-  pub run_cut_off : (all : List Line) → lines ++ line ∷ [] ≡ take (length lines + 1) all → (front : ℕ) → Appends between written_after (take front (reply_line reply)) → RunCutOff d before all after written written_after
+  pub run_cut_off : (all : List Line) → lines ++ line ∷ [] ≡ take (length lines + 1) all → (front : ℕ) → log_after ≡ between ++ moved (take front (reply_line reply)) ∷ failed ∷ [] → RunCutOff d before all after log log_after
   run_cut_off all front_is front given =
       let e : Event = record { line = line; reply = reply; before = now; after = after } in
       record {
@@ -65,7 +67,7 @@ module _ (d : Numbers) (before now after : View) (lines : List Line) (line : Lin
         run = run_more d before r.events now e r.run refl step;
         of_lines = lines_more r.events e ∙ (ap (λ ls. ls ++ line ∷ []) r.of_lines ∙ (front_is ∙ ap (λ n. take (n + 1) all) (ap length (sym r.of_lines) ∙ length_lines r.events)));
         front = front;
-        given = appends_more written between written_after (output_of r.events) (take front (reply_line reply)) r.given given;
+        given = given ∙ (ap (λ (xs : List Act). xs ++ moved (take front (reply_line reply)) ∷ failed ∷ []) r.given ∙ append_assoc log (all_given (pieces_of r.events)) (moved (take front (reply_line reply)) ∷ failed ∷ []));
       }
     where
       length_lines : (events : List Event) → length (lines_of events) ≡ length events

@@ -16,7 +16,7 @@ use Rattle.rssd_run.specs.Held.{Tallies, plus, tallies_of, on, off, refused, aft
 use Rattle.rssd_run.specs.Step.{AlwaysAnswered, TrueWhileOn}
 use Rattle.rssd_run.specs.Steps.{ArrayIs, IsKept, Steps, MountDone, MountRefused, refusal_reply}
 use Rattle.rssd_run.specs.Shows.{Holding, Mounted, Closed, Nothing, HasNumbers, AreSmall, SessionValue, Shows, ShowsHolding, StepsSession, IsHeld, SaysStat, holding_of}
-use Rattle.rssd_run.proofs.Refused.{IsSmall, off_step, stat_step}
+use Rattle.rssd_run.proofs.Refused.{IsSmall, PoweredWhileOn, off_step, stat_step}
 
 array_stands : (stopped : Bool) (rows : List (List ℕ)) (array : ArrayState) → ArrayIs stopped rows array → IsArrayOf rows array
 array_stands false rows array is = rw is refl
@@ -102,15 +102,22 @@ not_on : (array : ArrayState) → IsOn array → IsOff array → ⊥
 not_on (On rows) on off = off
 not_on (Off a b) on off = on
 
+-- the device of a view that is on runs
+runs_on : (device : DeviceValue) (rows : List (List ℕ)) (array : ArrayState) (stopped : Bool) → device.stopped ≡ stopped → ArrayIs stopped rows array → IsOn array → device.stopped ≡ false
+runs_on device rows array false e is here = e
+runs_on device rows array true e is here = absurd (not_on array here is.0)
+
 -- while a view is on, the book is true
 true_on : (d : Numbers) (plan : Plan) (base : Tallies) (holding : Holding) (view : View) → IsHeld plan holding → HasNumbers d holding → ShowsHolding d base holding view → TrueWhileOn d view
-true_on d plan base (Mounted device) view held numbers shows = λ here. rw shows.0 ((subst (λ (n : Numbers). IsKept n device) numbers held.1).book (runs device.stopped refl shows.1 here))
-  where
-    runs : (stopped : Bool) → device.stopped ≡ stopped → ArrayIs stopped (rows_of d device.view) view.array → IsOn view.array → device.stopped ≡ false
-    runs false e is here = e
-    runs true e is here = absurd (not_on view.array here is.0)
+true_on d plan base (Mounted device) view held numbers shows = λ here. rw shows.0 ((subst (λ (n : Numbers). IsKept n device) numbers held.1).book (runs_on device (rows_of d device.view) view.array device.stopped refl shows.1 here))
 true_on d plan base (Closed numbers' die) view held numbers shows = λ here. absurd (not_on view.array here shows.2)
 true_on d plan base Nothing view held numbers shows = absurd shows
+
+-- and its die has power
+power_on : (d : Numbers) (plan : Plan) (base : Tallies) (holding : Holding) (view : View) → IsHeld plan holding → HasNumbers d holding → ShowsHolding d base holding view → PoweredWhileOn view
+power_on d plan base (Mounted device) view held numbers shows = λ here tells. rw shows.0 ((subst (λ (n : Numbers). IsKept n device) numbers held.1).power (runs_on device (rows_of d device.view) view.array device.stopped refl shows.1 here))
+power_on d plan base (Closed numbers' die) view held numbers shows = λ here. absurd (not_on view.array here shows.2)
+power_on d plan base Nothing view held numbers shows = absurd shows
 
 pub stat_steps : (d : Numbers) (plan : Plan) (session : SessionValue) (reply : Reply) → IsHeld plan session.holding → AreSmall session.base → HasNumbers d session.holding → SaysStat d session reply
     → StepsSession d Stat reply session session
@@ -119,6 +126,7 @@ stat_steps d plan session reply held small numbers says before shows calm = (
   shows,
   rw (says before shows)
       (stat_step d before (shows_stands d session.base session.holding before shows) (true_on d plan session.base session.holding before held numbers shows)
+      (power_on d plan session.base session.holding before held numbers shows)
       (shows_small d session.base session.holding before small shows)),
 )
 

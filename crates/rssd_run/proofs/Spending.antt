@@ -11,6 +11,7 @@ use Rattle.die_image.specs.declared.head.ImageHead.{ImageHead}
 use Rattle.rssd_core.specs.DeviceValue.{Numbers, DeviceView}
 use Rattle.rssd_core.specs.Moves.{MovesSeq}
 use Rattle.rssd_core.specs.Mount.{IsMountedView}
+use Rattle.rssd_io.specs.Event.{Event as Act}
 use Rattle.rssd_script.specs.declared.lines.Line.{Line}
 use Rattle.rssd_script.specs.declared.lines.Line.TheVariants.{Write, Read, Trim, Idle, Cut, FailRead, Mount, Stat}
 use Rattle.rssd_script.specs.declared.replies.Reply.{Reply}
@@ -139,8 +140,8 @@ start_below head view start = record {
   sound = start.sound;
 }
 
-pub replays_never_spend : (head : ImageHead) (text : List ℕ) (lines : List Line) (written written_after : Option (List ℕ)) (r : Replays head lines written written_after) → Reads text lines → All NeverSpends r.run.events
-replays_never_spend head text lines written written_after r reads =
+pub replays_never_spend : (head : ImageHead) (text : List ℕ) (lines : List Line) (log log_after : List Act) (r : Replays head lines log log_after) → Reads text lines → All NeverSpends r.run.events
+replays_never_spend head text lines log log_after r reads =
     let short = reads.0 in
     let few = few_lines text in
     let many = as_many (text_lines text) lines reads.1 in

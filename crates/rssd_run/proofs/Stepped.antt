@@ -23,7 +23,8 @@ use Rattle.rssd_run.proofs.CommandSteps.{bounded, trimmed_step, trim_read_fault,
 use Rattle.rssd_run.specs.Armed.{form_of_word}
 use Rattle.rssd_run.specs.Step.{IsStep}
 use Rattle.rssd_run.specs.Steps.{IsKept, Steps, ArrayIs}
-use Rattle.rssd_run.proofs.Came.{power_tells, went_power, AReadCame, read_came, powered_case, HasPower, passed_went}
+use Rattle.rssd_run.proofs.Came.{power_tells, went_power, AReadCame, read_came, powered_case, passed_went}
+use Rattle.rssd_run.proofs.Still.{still_tells, still_powered}
 use Rattle.rssd_run.proofs.WriteSteps.{event_of, Tried, wrote_first, wrote_second, wrote_declined, write_read_fault, write_change_fault}
 
 pub change_tells : {changes reads : ℕ} (old new : DieState) → TellsPower old → ChangeFailed changes reads old new → Tells new
@@ -132,20 +133,12 @@ idle_fault_steps d n old new kept running holds w =
 -- ---- lines that arm failures: the die tells as before, and keeps its power
 
 module _ (change : Failures → Failures) (same : (failures : Failures) → (change failures).powered ≡ failures.powered) where
-  still_tells : (x : Option Failures) → IsSomeAnd x (λ f. Unit {0}) → IsSomeAnd (option_map change x) (λ f. Unit {0})
-  still_tells None h = absurd h
-  still_tells (Some a) h = tt
-
-  still_powered : (x : Option Failures) → HasPower x → HasPower (option_map change x)
-  still_powered None h = absurd h
-  still_powered (Some a) h = same a ∙ h
-
   told_kept : (d : Numbers) (old : DeviceValue) → IsKept d old → IsKept d (with_die (told change) old)
   told_kept d old kept = record {
     numbers = kept.numbers;
     shape = kept.shape;
-    tells = still_tells old.view.die.failures kept.tells;
-    power = λ running. still_powered old.view.die.failures (kept.power running);
+    tells = still_tells change same old.view.die.failures kept.tells;
+    power = λ running. still_powered change same old.view.die.failures (kept.power running);
     book = kept.book;
   }
 
@@ -153,12 +146,12 @@ pub cut_steps : (d : Numbers) (old : DeviceValue) (n : ℕ) (torn : TornWord) �
     → Steps d (CutLine n torn) Done old (with_die (told (with_cut n (form_of_word torn))) old)
 cut_steps d old n torn some kept running =
     runs_on d (CutLine n torn) Done old (with_die (told (with_cut n (form_of_word torn))) old) (told_kept (with_cut n (form_of_word torn)) (λ failures. refl) d old kept) running
-    (λ calm base. cut_step d base old n torn some running kept.book)
+    (λ calm base. cut_step d base old n torn some running (kept.power running) kept.book)
 
 pub fail_read_steps : (d : Numbers) (old : DeviceValue) (n : ℕ) → 1 ≤ n → IsKept d old → old.stopped ≡ false → Steps d (FailRead n) Done old (with_die (told (with_read_failure n)) old)
 fail_read_steps d old n some kept running =
     runs_on d (FailRead n) Done old (with_die (told (with_read_failure n)) old) (told_kept (with_read_failure n) (λ failures. refl) d old kept) running
-    (λ calm base. fail_read_step d base old n some running kept.book)
+    (λ calm base. fail_read_step d base old n some running (kept.power running) kept.book)
 
 -- ---- reads
 

@@ -12,9 +12,10 @@ use Rattle.rssd_core.specs.Failures.{cut_in, form_in, read_in, cut_of, form_of, 
 use Rattle.rssd_core.specs.Moves.{MovesBook, MovesSeq}
 use Rattle.rssd_run.specs.Step.{KeepsDie}
 
-pub keeps_cells : (d : Numbers) (old new : DeviceView) → new.die.shape ≡ old.die.shape → SameCells old.die new.die → KeepsDie d old new
-keeps_cells d old new shape same = record {
+pub keeps_cells : (d : Numbers) (old new : DeviceView) → new.die.shape ≡ old.die.shape → SameCells old.die new.die → (Tells old.die → Tells new.die) → KeepsDie d old new
+keeps_cells d old new shape same tells = record {
   shape = shape;
+  tells = tells;
   never_falls = same_cells_never_fall same;
   no_pad = λ h. rw same.cells h;
   sound = λ h. rw same.cells h;
@@ -63,6 +64,16 @@ armed_read_none n some None (inl h) = omega (arith, h.0)
 armed_read_none n some None (inr h) = omega (arith, h.0)
 armed_read_none n some (Some a) (inl h) = omega (arith, h.0, h.1)
 armed_read_none n some (Some a) (inr h) = omega (arith, h.1)
+
+-- a change of what a die tells that leaves its power: it tells as before, and keeps its power
+module _ (change : Failures → Failures) (same : (failures : Failures) → (change failures).powered ≡ failures.powered) where
+  pub still_tells : (x : Option Failures) → IsSomeAnd x (λ f. Unit {0}) → IsSomeAnd (option_map change x) (λ f. Unit {0})
+  still_tells None h = absurd h
+  still_tells (Some a) h = tt
+
+  pub still_powered : (x : Option Failures) → IsSomeAnd x (λ f. f.powered ≡ true) → IsSomeAnd (option_map change x) (λ f. f.powered ≡ true)
+  still_powered None h = absurd h
+  still_powered (Some a) h = same a ∙ h
 
 -- giving the power back moves no armed failure
 pub cut_powered : (x : Option Failures) → cut_in (option_map with_power x) ≡ cut_in x

@@ -19,7 +19,7 @@ use Rattle.rssd_run.specs.View.{View, Event, NoFailure, ACut, AReadFailure}
 use Rattle.rssd_run.specs.Held.{Tallies, plus, on, off, Calm}
 use Rattle.rssd_run.specs.Placing.{IsTried, PlacedExactly}
 use Rattle.rssd_run.specs.Step.{IsStep}
-use Rattle.rssd_run.proofs.Came.{went_lowers, none_came, ACutCame, change_came, AReadCame, read_came, change_rose, read_rose}
+use Rattle.rssd_run.proofs.Came.{went_lowers, none_came, ACutCame, change_came, AReadCame, read_came, change_rose, read_rose, went_tells, went_power, change_failed_tells, read_failed_tells}
 use Rattle.rssd_run.proofs.Parts.{not_refused, no_fault, keeps, plus_book, plus_seq}
 
 abbrev pub event_of : Line → Reply → View → View → Event
@@ -87,7 +87,7 @@ wrote_first d base old new sector bytes tried power holds w =
       stands_before = refl;
       stands_after = refl;
       off = λ h. cc;
-      keeps = keeps d base old new holds;
+      keeps = keeps d base old new holds (went_tells old.view.die new.view.die w.calls);
       placed = of_line d e sector bytes refl placed;
       fault = no_fault e (λ h. cc) none;
       answers = record {
@@ -101,6 +101,7 @@ wrote_first d base old new sector bytes tried power holds w =
       true_book = λ h. holds.true_book w.running;
       moves = (record { book = plus_book d base old.view new.view (λ rise at came. at power came) w.book; seq = plus_seq d base old.view new.view w.seq }, tt);
       armed = record { arms = tt; lowers = λ a f. lowers; fault = λ h. cc };
+      power = λ on tells. went_power old.view.die new.view.die power w.calls;
     }
 
 pub wrote_second : (d : Numbers) (base : Tallies) (old new : DeviceValue) (sector : ℕ) (bytes : List ℕ) → Tried d old sector bytes → TellsPower old.view.die → Holds d old new
@@ -121,7 +122,7 @@ wrote_second d base old new sector bytes tried power holds w =
       stands_before = refl;
       stands_after = refl;
       off = λ h. cc;
-      keeps = keeps d base old new holds;
+      keeps = keeps d base old new holds (went_tells old.view.die new.view.die w.calls);
       placed = of_line d e sector bytes refl placed;
       fault = no_fault e (λ h. cc) none;
       answers = record {
@@ -135,6 +136,7 @@ wrote_second d base old new sector bytes tried power holds w =
       true_book = λ h. holds.true_book w.running;
       moves = (record { book = plus_book d base old.view new.view (λ rise at came. at power came) w.book; seq = plus_seq d base old.view new.view w.seq }, tt);
       armed = record { arms = tt; lowers = λ a f. lowers; fault = λ h. cc };
+      power = λ on tells. went_power old.view.die new.view.die power w.calls;
     }
 
 pub wrote_declined : (d : Numbers) (base : Tallies) (old new : DeviceValue) (sector : ℕ) (bytes : List ℕ) → Tried d old sector bytes → TellsPower old.view.die → Holds d old new
@@ -155,7 +157,7 @@ wrote_declined d base old new sector bytes tried power holds w =
       stands_before = refl;
       stands_after = refl;
       off = λ h. cc;
-      keeps = keeps d base old new holds;
+      keeps = keeps d base old new holds (went_tells old.view.die new.view.die w.calls);
       placed = of_line d e sector bytes refl placed;
       fault = no_fault e (λ h. cc) none;
       answers = record {
@@ -169,6 +171,7 @@ wrote_declined d base old new sector bytes tried power holds w =
       true_book = λ h. holds.true_book w.running;
       moves = (record { book = plus_book d base old.view new.view (λ rise at came. at power came) w.book; seq = plus_seq d base old.view new.view w.seq }, tt);
       armed = record { arms = tt; lowers = λ a f. lowers; fault = λ h. cc };
+      power = λ on tells. went_power old.view.die new.view.die power w.calls;
     }
 
 -- no write is placed where the die failed
@@ -195,7 +198,7 @@ write_read_fault d base old new sector bytes tried power holds w f =
       stands_before = refl;
       stands_after = refl;
       off = λ h c. record { only = λ off. absurd off; always = λ on more. omega (arith, f.failed.change_faults, more) };
-      keeps = keeps d base old new holds;
+      keeps = keeps d base old new holds (read_failed_tells old.view.die new.view.die f.failed);
       placed = of_line d e sector bytes refl (not_placed d e sector (filled_up d.geometry.sector_bytes bytes) refl (inr came.came));
       fault = record {
         came = (λ h. inr came.came, λ h. refl);
@@ -223,6 +226,7 @@ write_read_fault d base old new sector bytes tried power holds w f =
           read_came = λ read. (came.within, came.cut, came.form);
         };
       };
+      power = λ on tells. came.power;
     }
 
 -- what a write that was cut leaves is as before or as it was to be: over sound cells, or never where no cut is armed
@@ -242,7 +246,7 @@ write_change_fault d base old new sector bytes tried power calm holds w f =
       stands_before = refl;
       stands_after = calm_rows d old new calm came f.rows;
       off = λ h c. record { only = λ off. f.failed.change_faults; always = λ on. absurd on };
-      keeps = keeps d base old new holds;
+      keeps = keeps d base old new holds (change_failed_tells old.view.die new.view.die f.failed);
       placed = of_line d e sector bytes refl (not_placed d e sector (filled_up d.geometry.sector_bytes bytes) refl (inl came.came));
       fault = record {
         came = (λ h. inl came.came, λ h. refl);
@@ -270,4 +274,5 @@ write_change_fault d base old new sector bytes tried power calm holds w f =
           read_came = λ read. absurd (omega (arith, came.read.to_come read.0, read.1));
         };
       };
+      power = λ on. absurd on;
     }

@@ -1,5 +1,5 @@
 -- A run of lines on a die that is mounted first.
-use Rattle.std.specs.Prelude.{◌≡◌, ℕ, List, Option}
+use Rattle.std.specs.Prelude.{◌≡◌, ℕ, List}
 use Rattle.cell_die.specs.DieState.{DieState}
 use Rattle.cell_die.specs.Calls.{IsQuiet}
 use Rattle.page_codec.specs.Sectors.{stored}
@@ -7,6 +7,7 @@ use Rattle.die_image.specs.declared.head.ImageHead.{ImageHead}
 use Rattle.die_image.specs.Image.{shape_of}
 use Rattle.rssd_core.specs.DeviceValue.{Numbers, DeviceValue}
 use Rattle.rssd_core.specs.Mount.{Mounts}
+use Rattle.rssd_io.specs.Event.{Event as Act, Grows}
 use Rattle.rssd_script.specs.declared.lines.Line.{Line}
 use Rattle.rssd_run.specs.ArrayWithCuts.{On}
 use Rattle.rssd_run.specs.View.{View}
@@ -38,26 +39,27 @@ pub record StartsOn (head : ImageHead) (die : DieState) (session : SessionValue)
   pub numbers : HasNumbers (numbers_named head) session.holding
 
 -- a run of these lines from a view to one with this die, and the texts of its replies were given
-pub record RunsTo (d : Numbers) (before : View) (lines : List Line) (written written_after : Option (List ℕ)) (last : DieState) : Type 0 where
+pub record RunsTo (d : Numbers) (before : View) (lines : List Line) (log log_after : List Act) (last : DieState) : Type 0 where
   pub after : View
   pub die : after.device.die ≡ last
-  pub run : RunOf d before lines after written written_after
+  pub run : RunOf d before lines after log log_after
 
 -- The lines were run on a die that was mounted first, and this die was left: over sound cells, or where no line is `cut`, that
 -- is a run of them.
-pub record RunsOn (head : ImageHead) (die : DieState) (lines : List Line) (written written_after : Option (List ℕ)) (last : DieState) : Type 0 where
+pub record RunsOn (head : ImageHead) (die : DieState) (lines : List Line) (log log_after : List Act) (last : DieState) : Type 0 where
   pub shape : last.shape ≡ shape_of head
+  pub grew : Grows log log_after
   pub before : View
   pub start : IsStart head die before
-  pub run : CalmFor (numbers_named head) die lines → RunsTo (numbers_named head) before lines written written_after last
+  pub run : CalmFor (numbers_named head) die lines → RunsTo (numbers_named head) before lines log log_after last
 
 -- a run of the first lines from a view, and the texts of its replies were given, but of the last one's a front only
-pub record RunsInPart (d : Numbers) (before : View) (lines : List Line) (written written_after : Option (List ℕ)) : Type 0 where
+pub record RunsInPart (d : Numbers) (before : View) (lines : List Line) (log log_after : List Act) : Type 0 where
   pub after : View
-  pub run : RunCutOff d before lines after written written_after
+  pub run : RunCutOff d before lines after log log_after
 
 -- the same of the first lines, up to the one whose reply was not given whole
-pub record RunsFrontOn (head : ImageHead) (die : DieState) (lines : List Line) (written written_after : Option (List ℕ)) : Type 0 where
+pub record RunsFrontOn (head : ImageHead) (die : DieState) (lines : List Line) (log log_after : List Act) : Type 0 where
   pub before : View
   pub start : IsStart head die before
-  pub run : CalmFor (numbers_named head) die lines → RunsInPart (numbers_named head) before lines written written_after
+  pub run : CalmFor (numbers_named head) die lines → RunsInPart (numbers_named head) before lines log log_after

@@ -1,4 +1,3 @@
-pub mod Reading
 pub mod Statuses
 pub mod ArrayWithCuts
 pub mod View
@@ -13,6 +12,7 @@ pub mod Shows
 pub mod Played
 pub mod ReadScript
 pub mod ReadImage
+pub mod GiveImage
 pub mod Schemes
 pub mod Heads
 pub mod DieRuns

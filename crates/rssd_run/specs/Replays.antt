@@ -1,5 +1,5 @@
 -- What a replay of lines runs on, and what it gives: a run of the lines that begins at a blank die that is mounted first.
-use Rattle.std.specs.Prelude.{◌≡◌, ℕ, List, Option, Some}
+use Rattle.std.specs.Prelude.{◌≡◌, List, Some}
 use Rattle.zero_count.specs.declared.Header.{Header}
 use Rattle.cell_die.specs.DieState.{DieState}
 use Rattle.mem_die.specs.MemState.{IsNew}
@@ -10,6 +10,7 @@ use Rattle.die_image.specs.declared.head.ImageHead.{ImageHead}
 use Rattle.die_image.specs.Image.{shape_of}
 use Rattle.rssd_core.specs.DeviceValue.{DeviceValue}
 use Rattle.rssd_core.specs.Mount.{Mounts}
+use Rattle.rssd_io.specs.Event.{Event as Act}
 use Rattle.rssd_script.specs.declared.lines.Line.{Line}
 use Rattle.rssd_run.specs.ArrayWithCuts.{On}
 use Rattle.rssd_run.specs.View.{View}
@@ -29,15 +30,15 @@ pub record IsBlankStart (head : ImageHead) (view : View) : Type 0 where
   pub sound : IsSound (numbers_named head).geometry view.device.die.cells
 
 -- a run of these lines from such a view, and the texts of its replies were given
-pub record Replays (head : ImageHead) (lines : List Line) (written written_after : Option (List ℕ)) : Type 0 where
+pub record Replays (head : ImageHead) (lines : List Line) (log log_after : List Act) : Type 0 where
   pub before : View
   pub start : IsBlankStart head before
   pub after : View
-  pub run : RunOf (numbers_named head) before lines after written written_after
+  pub run : RunOf (numbers_named head) before lines after log log_after
 
 -- a run of the first of these lines, and the texts of its replies were given, but of the last one's a front only
-pub record ReplaysFront (head : ImageHead) (lines : List Line) (written written_after : Option (List ℕ)) : Type 0 where
+pub record ReplaysFront (head : ImageHead) (lines : List Line) (log log_after : List Act) : Type 0 where
   pub before : View
   pub start : IsBlankStart head before
   pub after : View
-  pub run : RunCutOff (numbers_named head) before lines after written written_after
+  pub run : RunCutOff (numbers_named head) before lines after log log_after

@@ -1,7 +1,7 @@
--- The statuses of the top call, the lines of refusal, and what a call was given and left.
-use Rattle.std.specs.Prelude.{◌≡◌, ◌⊎◌, ℕ, ◌++◌, ◌∷◌, List, [], Option, codes, decimal}
-use Rattle.std.specs.Io.KnownBytes.{Appends, Keeps}
-use Rattle.rssd_io.specs.Faults.{AppendsFront, Rose}
+-- The statuses of the top call, the lines of refusal, and what a call took of its sources and gave to its sinks.
+use Rattle.std.specs.Prelude.{◌≡◌, ◌⊎◌, ℕ, ◌++◌, ◌∷◌, List, [], codes, decimal}
+use Rattle.rssd_io.specs.Event.{Event, HasEnded, HasFailed, bytes_of, failures, since}
+use Rattle.rssd_io.specs.Pieces.{HandsOn, StopsIn}
 use Rattle.die_image.specs.declared.error.ImageError.{ImageError}
 use Rattle.die_image.specs.declared.error.ImageError.TheVariants as images
 use Rattle.rssd_run.specs.declared.status.Status.{Status}
@@ -9,26 +9,22 @@ use Rattle.rssd_run.specs.declared.status.Status.TheVariants.{Done, BadWords, Ba
 use Rattle.rssd_script.specs.declared.error.ScriptError.{ScriptError}
 use Rattle.rssd_script.specs.declared.error.ScriptError.TheVariants as errors
 
--- a source in a call: the bytes that it told before and afterwards, and its counts of faults
+-- a source in a call: its log before and afterwards
 pub record Input : Type 0 where
-  pub told : Option (List ℕ)
-  pub left : Option (List ℕ)
-  pub faults : ℕ
-  pub faults_after : ℕ
+  pub before : List Event
+  pub after : List Event
 
--- a sink in a call: the bytes that it told before and afterwards, and its counts of faults
+-- a sink in a call: its log before and afterwards
 pub record Output : Type 0 where
-  pub written : Option (List ℕ)
-  pub written_after : Option (List ℕ)
-  pub faults : ℕ
-  pub faults_after : ℕ
+  pub before : List Event
+  pub after : List Event
 
 -- the same by their fields in order
-abbrev pub input : Option (List ℕ) → Option (List ℕ) → ℕ → ℕ → Input
-input told left faults faults_after = record { told = told; left = left; faults = faults; faults_after = faults_after }
+abbrev pub input : List Event → List Event → Input
+input before after = record { before = before; after = after }
 
-abbrev pub output : Option (List ℕ) → Option (List ℕ) → ℕ → ℕ → Output
-output written written_after faults faults_after = record { written = written; written_after = written_after; faults = faults; faults_after = faults_after }
+abbrev pub output : List Event → List Event → Output
+output before after = record { before = before; after = after }
 
 -- what the call was given and what it left
 pub record Call : Type 0 where
@@ -38,26 +34,53 @@ pub record Call : Type 0 where
   pub out : Output
   pub image_out : Output
 
--- the source failed
+-- ---- sources
+
+-- the takes of the call
+abbrev pub takes : Input → List Event
+takes source = since source.before source.after
+
+-- the bytes that were taken
+abbrev pub taken : Input → List ℕ
+taken source = bytes_of (takes source)
+
+-- all of the input was taken: no take failed, and the last one found its end
+pub record IsTakenWhole (source : Input) : Type 0 where
+  pub served : failures (takes source) ≡ 0
+  pub ended : HasEnded (takes source)
+
+-- a take failed
 abbrev pub ReadFailed : Input → Type 0
-ReadFailed source = Rose source.faults source.faults_after
+ReadFailed source = HasFailed source.before source.after
 
--- the sink failed
-abbrev pub WriteFailed : Output → Type 0
-WriteFailed sink = Rose sink.faults sink.faults_after
+-- the source was not called
+abbrev pub IsUntouched : Input → Type 0
+IsUntouched source = source.after ≡ source.before
 
--- the sink took nothing
+-- ---- sinks
+
+-- the sink was given these pieces, each by one give, and then what waited was handed on
+abbrev pub Took : Output → List (List ℕ) → Type 0
+Took sink pieces = HandsOn pieces sink.before sink.after
+
+-- a give of these pieces failed, after those before it and with a front of its own; or handing on what waited failed, after all
+abbrev pub TookPart : Output → List (List ℕ) → Type 0
+TookPart sink pieces = StopsIn pieces sink.before sink.after
+
+-- the sink was not called
 abbrev pub TookNothing : Output → Type 0
-TookNothing sink = Keeps sink.written sink.written_after
+TookNothing sink = sink.after ≡ sink.before
 
--- a sink took the line, or a front of it where it failed
-abbrev pub TookLine : Option (List ℕ) → Option (List ℕ) → ℕ → ℕ → List ℕ → Type 0
-TookLine written after faults faults_after line = Appends written after line ⊎ (AppendsFront written after line × Rose faults faults_after)
-
+-- the sink took the line; or it failed, and the status stays as it is
 abbrev pub GaveLine : Output → List ℕ → Type 0
-GaveLine sink line = TookLine sink.written sink.written_after sink.faults sink.faults_after line
+GaveLine sink line = Took sink (line ∷ []) ⊎ TookPart sink (line ∷ [])
 
--- the lines of refusal
+-- a call of the sink failed
+abbrev pub WriteFailed : Output → Type 0
+WriteFailed sink = HasFailed sink.before sink.after
+
+-- ---- the lines of refusal
+
 abbrev pub bad_words : List ℕ
 bad_words = codes "bad words\n"
 
@@ -92,12 +115,12 @@ number_of WriteFault = 6
 number_of OutOfMemory = 7
 
 -- what a refused script is answered, and what it leaves of `out`
-abbrev pub RefusesSo : ScriptError → Status → Option (List ℕ) → Option (List ℕ) → ℕ → ℕ → Type 0
-RefusesSo (errors.TooLong) status written after faults faults_after = (status ≡ BadScript) × TookLine written after faults faults_after too_long
-RefusesSo (errors.BadLine k) status written after faults faults_after = (status ≡ BadScript) × TookLine written after faults faults_after (bad_line k)
-RefusesSo (errors.OutOfMemory) status written after faults faults_after = (status ≡ OutOfMemory) × Keeps written after
+abbrev pub RefusesSo : ScriptError → Status → Output → Type 0
+RefusesSo (errors.TooLong) status out = (status ≡ BadScript) × GaveLine out too_long
+RefusesSo (errors.BadLine k) status out = (status ≡ BadScript) × GaveLine out (bad_line k)
+RefusesSo (errors.OutOfMemory) status out = (status ≡ OutOfMemory) × TookNothing out
 
 -- what a refused image is answered, and what it leaves of `out`
-abbrev pub RefusesImageSo : ImageError → Status → Option (List ℕ) → Option (List ℕ) → ℕ → ℕ → Type 0
-RefusesImageSo images.OutOfMemory status written after faults faults_after = (status ≡ OutOfMemory) × Keeps written after
-RefusesImageSo why status written after faults faults_after = (status ≡ BadImage) × TookLine written after faults faults_after (bad_image why)
+abbrev pub RefusesImageSo : ImageError → Status → Output → Type 0
+RefusesImageSo images.OutOfMemory status out = (status ≡ OutOfMemory) × TookNothing out
+RefusesImageSo why status out = (status ≡ BadImage) × GaveLine out (bad_image why)

@@ -12,6 +12,7 @@ use Rattle.rssd_script.specs.declared.replies.Reply.{Reply}
 use Rattle.rssd_script.specs.declared.replies.Reply.TheVariants.{First, Second, Declined, Moves, Stat as Counts, Range, Long, Off as SaysOff, Fault, Spent, NoSpare, NoMemory}
 use Rattle.rssd_core.specs.SectorArray.{filled_up}
 use Rattle.rssd_core.specs.DeviceValue.{Numbers, DeviceView}
+use Rattle.rssd_core.specs.Failures.{Tells, TellsPower}
 use Rattle.rssd_core.specs.Moves.{ChangesRose, ChangesStayed}
 use Rattle.rssd_core.specs.IdleRule.{NoMoveLeft, moment_of}
 use Rattle.rssd_core.specs.Mount.{EveryBlockLive}
@@ -126,9 +127,11 @@ abbrev pub TrueWhileOn : Numbers → View → Type 0
 TrueWhileOn d view = IsOn view.array
     → IsTrueBook d.geometry d.reuse_max view.device.die.cells view.device.book (live_map d.geometry view.device.die.cells) view.device.seq
 
--- the die keeps its shape, no cell's charge falls between erases of its block, no pad cell is charged, and sound cells stay sound
+-- the die keeps its shape, it goes on telling its armed failures, no cell's charge falls between erases of its block, no pad
+-- cell is charged, and sound cells stay sound
 pub record KeepsDie (d : Numbers) (old new : DeviceView) : Type 0 where
   pub shape : new.die.shape ≡ old.die.shape
+  pub tells : Tells old.die → Tells new.die
   pub never_falls : NeverFalls old.die new.die
   pub no_pad : NoPadCharged (shape_of d.geometry) old.die.cells → NoPadCharged (shape_of d.geometry) new.die.cells
   pub sound : IsSound d.geometry old.die.cells → IsSound d.geometry new.die.cells
@@ -149,5 +152,6 @@ pub record IsStep (d : Numbers) (e : Event) : Type 0 where
   -- the book is true while the session is on, and it moves by rules
   pub true_book : TrueWhileOn d e.after
   pub moves : BookMoves d e e.line e.reply
-  -- armed failures come at the call that was named
+  -- armed failures come at the call that was named, and while the session is on a die that tells them tells that it has power
   pub armed : ArmedExactly d e
+  pub power : IsOn e.after.array → Tells e.after.device.die → TellsPower e.after.device.die

@@ -1,12 +1,12 @@
 //! The lines of refusal: what `out` is told before a status that refuses words, a script or an image.
 ghost use Rattle.std.specs.Prelude.{◌≡◌};
-ghost use Rattle.rssd_run.specs.Statuses.{TookLine, RefusesSo, RefusesImageSo, bad_line, bad_words};
+ghost use Rattle.rssd_run.specs.Statuses.{GaveLine, output, RefusesSo, RefusesImageSo, bad_line, bad_words};
 
 use crate::status::Status;
 use arrayvec::ArrayVec;
 use die_image::ImageError;
 use itoa::Buffer;
-use rssd_io::Sink;
+use rssd_io::{Sink, give_last};
 use rssd_script::ScriptError;
 
 /// The line of refusal for a bad line.
@@ -21,17 +21,17 @@ fn bad_line(line: u32) -> ArrayVec<u8, 24>
     text
 }
 
-/// Gives a line of refusal to `out`. A fault there changes nothing of the answer.
+/// Gives a line of refusal to `out`, and has it hand the line on. A fault there changes nothing of the answer.
 pub fn refuse<O: Sink>(out: &mut O, line: &[u8])
-    ensures { TookLine (O.written out.old) (O.written out.new) (O.faults out.old) (O.faults out.new) line.now }
+    ensures { GaveLine (output (O.log out.old) (O.log out.new)) line.now }
 {
-    let _ = out.give(line);
+    let _ = give_last(out, line);
 }
 
 /// Refuses words.
 pub fn refuse_words<O: Sink>(out: &mut O) -> Status
     ensures status { result ≡ Status.BadWords }
-    ensures line { TookLine (O.written out.old) (O.written out.new) (O.faults out.old) (O.faults out.new) bad_words }
+    ensures line { GaveLine (output (O.log out.old) (O.log out.new)) bad_words }
 {
     refuse(out, b"bad words\n");
     Status::BadWords
@@ -39,7 +39,7 @@ pub fn refuse_words<O: Sink>(out: &mut O) -> Status
 
 /// Refuses a script.
 pub fn refuse_script<O: Sink>(out: &mut O, why: ScriptError) -> Status
-    ensures { RefusesSo why result (O.written out.old) (O.written out.new) (O.faults out.old) (O.faults out.new) }
+    ensures { RefusesSo why result (output (O.log out.old) (O.log out.new)) }
 {
     match why {
         ScriptError::TooLong => {
@@ -57,7 +57,7 @@ pub fn refuse_script<O: Sink>(out: &mut O, why: ScriptError) -> Status
 /// Refuses an image with this line.
 fn refuse_with<O: Sink>(out: &mut O, line: &[u8]) -> Status
     ensures status { result ≡ Status.BadImage }
-    ensures line { TookLine (O.written out.old) (O.written out.new) (O.faults out.old) (O.faults out.new) line.now }
+    ensures line { GaveLine (output (O.log out.old) (O.log out.new)) line.now }
 {
     refuse(out, line);
     Status::BadImage
@@ -65,7 +65,7 @@ fn refuse_with<O: Sink>(out: &mut O, line: &[u8]) -> Status
 
 /// Refuses an image.
 pub fn refuse_image<O: Sink>(out: &mut O, why: ImageError) -> Status
-    ensures { RefusesImageSo why result (O.written out.old) (O.written out.new) (O.faults out.old) (O.faults out.new) }
+    ensures { RefusesImageSo why result (output (O.log out.old) (O.log out.new)) }
 {
     match why {
         ImageError::OutOfMemory => Status::OutOfMemory,

@@ -1,8 +1,8 @@
 //! Scripts on a device whose power may be cut, over the device's contract.
-ghost use Rattle.std.specs.Prelude.{◌≡◌, OnOk, OnErr};
+ghost use Rattle.std.specs.Prelude.{OnOk, OnErr};
 ghost use Rattle.std.specs.List.{All};
 ghost use Rattle.rssd_core.specs.DeviceValue.{Numbers};
-ghost use Rattle.rssd_io.specs.Faults.{HasCause};
+ghost use Rattle.rssd_io.specs.Event.{Grows, HasFailed};
 ghost use Rattle.rssd_run.specs.Run.{RunsSession, CutsOffSession};
 ghost use Rattle.rssd_run.specs.Shows.{SessionValue, CanStep, HasNumbers, StepsSession};
 
@@ -42,10 +42,11 @@ pub fn run_lines<S: Stepping, O: Sink>(
     requires { All CanStep lines.now }
     ensures numbers { (d : Numbers) → HasNumbers d (S.session session.old).holding → HasNumbers d (S.session session.new).holding }
     ensures ok { OnOk result ((d : Numbers) → HasNumbers d (S.session session.old).holding
-        → RunsSession d lines.now (S.session session.old) (S.session session.new) (O.written out.old) (O.written out.new)) }
+        → RunsSession d lines.now (S.session session.old) (S.session session.new) (O.log out.old) (O.log out.new)) }
     ensures err { OnErr result ((d : Numbers) → HasNumbers d (S.session session.old).holding
-        → CutsOffSession d lines.now (S.session session.old) (S.session session.new) (O.written out.old) (O.written out.new)) }
-    ensures cause { HasCause (O.faults out.old) (O.faults out.new) result }
+        → CutsOffSession d lines.now (S.session session.old) (S.session session.new) (O.log out.old) (O.log out.new)) }
+    ensures grew { Grows (O.log out.old) (O.log out.new) }
+    ensures fault { OnErr result (HasFailed (O.log out.old) (O.log out.new)) }
 {
     for line in lines {
         let reply = session.step(alloc, line);

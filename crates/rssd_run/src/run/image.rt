@@ -1,10 +1,12 @@
 //! An image from a source and to a sink, in pieces. The head is tested before any more is read, and no byte is read that cannot
 //! change the answer. The whole image is not held beside its cells.
-ghost use Rattle.std.specs.Prelude.{◌≡◌, false, [], min, IfOk, OnOk, IfErr, OnErr, IsErrOf};
-ghost use Rattle.std.specs.Io.KnownBytes.{Appends};
+ghost use Rattle.std.specs.Prelude.{◌≡◌, ℕ, List, false, [], min, IfOk, OnOk, IfErr, OnErr};
+ghost use Rattle.die_image.specs.declared.head.ImageHead.{ImageHead as Head};
 ghost use Rattle.die_image.specs.Image.{image, wanted, AreCells};
-ghost use Rattle.rssd_io.specs.Faults.{Rose, HasCause, AppendsFront};
-ghost use Rattle.rssd_run.specs.ReadImage.{ReadsImage, RefusesImage, TakesNoMore, IsFed, HasAll};
+ghost use Rattle.rssd_io.specs.Event.{bytes_of, since};
+ghost use Rattle.rssd_io.specs.Pieces.{HandsOn, StopsIn, all_given};
+ghost use Rattle.rssd_run.specs.GiveImage.{image_pieces};
+ghost use Rattle.rssd_run.specs.ReadImage.{ReadsImage, RefusesImage, TakesImage, IsFed, HasAll};
 
 use die_image::{ImageError, ImageHead, ImageReader, encode_head};
 use rssd_io::{Sink, Source, WriteFault};
@@ -31,11 +33,10 @@ fn next_count(reader: &ImageReader) -> usize
 fn feed_wanted<I: Source>(reader: &mut ImageReader, image: &mut I) -> Result<(), ImageReadError>
     requires fresh { reader.old.is_failed ≡ false }
     requires empty { reader.old.bytes ≡ [] }
-    ensures fed { OnOk result (IsFed (I.left image.old) (I.left image.new) reader.old reader.new) }
-    ensures all { OnOk result (HasAll (I.left image.new) reader.new) }
-    ensures refused { IfErr result (RefusesImage reader.old.is_old (I.left image.old)) }
-    ensures bounded { TakesNoMore reader.old.is_old (I.left image.old) (I.left image.new) }
-    ensures fault { IsErrOf result ImageReadError.Fault → Rose (I.faults image.old) (I.faults image.new) }
+    ensures fed { OnOk result (IsFed (I.log image.old) (I.log image.new) reader.old reader.new) }
+    ensures all { OnOk result (HasAll (since (I.log image.old) (I.log image.new)) reader.new) }
+    ensures refused { IfErr result (RefusesImage reader.old.is_old (I.log image.old) (I.log image.new)) }
+    ensures bounded { TakesImage reader.old.is_old (I.log image.old) (I.log image.new) }
 {
     let mut piece = [0u8; PIECE];
     let mut room = next_count(reader);
@@ -56,20 +57,17 @@ fn feed_wanted<I: Source>(reader: &mut ImageReader, image: &mut I) -> Result<(),
 ///
 /// # Errors
 ///
-/// `Fault` only where the source's count of faults rose, and a refusal by the bytes that the source had left, though not all of
-/// them are read.
+/// `Fault` exactly where a take failed, and a refusal by the bytes that were taken, whatever follows them.
 pub fn read_image<I: Source>(
     mut reader: ImageReader,
     image: &mut I,
 ) -> Result<(ImageHead, Vec<u8>), ImageReadError>
     requires fresh { reader.is_failed ≡ false }
     requires empty { reader.bytes ≡ [] }
-    ensures read { IfOk result (λ read. ReadsImage reader.is_old (I.left image.old) (I.left image.new) read.0 read.1.items) }
-    // Also of a source that does not tell its bytes.
+    ensures read { IfOk result (λ read. ReadsImage reader.is_old (I.log image.old) (I.log image.new) read.0 read.1.items) }
     ensures cells { IfOk result (λ read. AreCells read.0 read.1.items) }
-    ensures refused { IfErr result (RefusesImage reader.is_old (I.left image.old)) }
-    ensures bounded { TakesNoMore reader.is_old (I.left image.old) (I.left image.new) }
-    ensures fault { IsErrOf result ImageReadError.Fault → Rose (I.faults image.old) (I.faults image.new) }
+    ensures refused { IfErr result (RefusesImage reader.is_old (I.log image.old) (I.log image.new)) }
+    ensures bounded { TakesImage reader.is_old (I.log image.old) (I.log image.new) }
 {
     feed_wanted(&mut reader, image)?;
     match reader.end() {
@@ -78,24 +76,28 @@ pub fn read_image<I: Source>(
     }
 }
 
-/// Gives the image of a head and of cells to a sink: the head in one piece of 32 bytes, and then page after page, where the
-/// cells are those of the head's die.
+/// Gives the image of a head and of cells to a sink: the head in one piece of 32 bytes, and then page after page; and then has
+/// the sink hand them on.
 pub fn give_image<G: Sink>(
     head: &ImageHead,
     cells: &[u8],
     image_out: &mut G,
 ) -> Result<(), WriteFault>
-    ensures done { OnOk result (Appends (G.written image_out.old) (G.written image_out.new) (image head.now cells.now)) }
-    ensures front { OnErr result (AppendsFront (G.written image_out.old) (G.written image_out.new) (image head.now cells.now)) }
-    ensures cause { HasCause (G.faults image_out.old) (G.faults image_out.new) result }
+    ensures done { OnOk result (HandsOn (image_pieces head.now cells.now) (G.log image_out.old) (G.log image_out.new)) }
+    ensures front { OnErr result (StopsIn (image_pieces head.now cells.now) (G.log image_out.old) (G.log image_out.new)) }
 {
     image_out.give(&encode_head(head))?;
     let page_bytes = head.scheme.page_bytes() + 16 * head.scheme.generations();
     for page in cells.chunks(page_bytes as usize) {
         image_out.give(page)?;
     }
-    Ok(())
+    image_out.flush()
 }
+
+/// The pieces of an image, one after another, are the image.
+pub fn the_pieces_of_an_image_are_the_image()
+    ensures { (head : Head) (cells : List ℕ) → bytes_of (all_given (image_pieces head cells)) ≡ image head cells }
+{}
 
 #[cfg(test)]
 mod tests;

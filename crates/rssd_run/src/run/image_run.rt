@@ -6,7 +6,7 @@ ghost use Rattle.cell_die.specs.DieState.{DieState};
 ghost use Rattle.die_image.specs.declared.head.ImageHead.{ImageHead as Head};
 ghost use Rattle.die_image.specs.Image.{die_bytes, image, image_read, is_within_limits, shape_of, AreCells};
 ghost use Rattle.mem_die.specs.MemState.{mem_state, IsMade};
-ghost use Rattle.rssd_io.specs.Faults.{Rose};
+ghost use Rattle.rssd_io.specs.Event.{Event, HasFailed};
 ghost use Rattle.rssd_script.specs.declared.lines.Line.{Line as Spelled};
 ghost use Rattle.rssd_run.specs.Calm.{is_arming, IsCalm};
 ghost use Rattle.rssd_run.specs.DieRuns.{RunsOn};
@@ -68,9 +68,9 @@ pub fn run_image<O: Sink>(
 ) -> Result<MemDie, RunError>
     requires cells { AreCells head.now cells.items }
     requires can_step { All CanStep lines.now }
-    ensures done { IfOk result (λ last. RunsImage head.now cells.items lines.now (O.written out.old) (O.written out.new) (mem_state last)) }
-    ensures front { IsErrOf result RunError.Sink → RunsImageFront head.now cells.items lines.now (O.written out.old) (O.written out.new) }
-    ensures fault { IsErrOf result RunError.Sink → Rose (O.faults out.old) (O.faults out.new) }
+    ensures done { IfOk result (λ last. RunsImage head.now cells.items lines.now (O.log out.old) (O.log out.new) (mem_state last)) }
+    ensures front { IsErrOf result RunError.Sink → RunsImageFront head.now cells.items lines.now (O.log out.old) (O.log out.new) }
+    ensures fault { IsErrOf result RunError.Sink → HasFailed (O.log out.old) (O.log out.new) }
     ensures no_spare { IsErrOf result RunError.NoSpare → IsFull head.now cells.items × (out.new ≡ out.old) }
     ensures memory { IsErrOf result RunError.OutOfMemory → out.new ≡ out.old }
 {
@@ -85,26 +85,26 @@ pub fn run_image<O: Sink>(
 /// of its block; a second write is declined exactly where no cells above the old carry the sector; a powered write fails only
 /// where die faults rose.
 pub fn image_runs_keep_the_headline()
-    ensures { (head : Head) (die last : DieState) (lines : List Spelled) (written after : Option (List ℕ)) (given : RunsOn head die lines written after last)
+    ensures { (head : Head) (die last : DieState) (lines : List Spelled) (log after : List Event) (given : RunsOn head die lines log after last)
         (calm : CalmFor (numbers_named head) die lines) → AllKeepHeadline (numbers_named head) (given.run calm).run.events }
 {}
 
 /// From any view of such a run to any later one, no cell's charge falls between erases of its block.
 pub fn charge_never_falls_in_an_image_run()
-    ensures { (head : Head) (die last : DieState) (lines : List Spelled) (written after : Option (List ℕ)) (given : RunsOn head die lines written after last)
+    ensures { (head : Head) (die last : DieState) (lines : List Spelled) (log after : List Event) (given : RunsOn head die lines log after last)
         (calm : CalmFor (numbers_named head) die lines) → ChargeNeverFalls given.before (given.run calm).run.events }
 {}
 
 /// Where no line is `cut` or `failread`, no reply is `fault` or `no spare`, and none is `off` before one is `no memory`, whether
 /// the image's cells are sound or not.
 pub fn image_runs_without_failures_are_calm()
-    ensures { (head : Head) (die last : DieState) (lines : List Spelled) (written after : Option (List ℕ)) (quiet : IsQuiet die) (given : RunsOn head die lines written after last)
+    ensures { (head : Head) (die last : DieState) (lines : List Spelled) (log after : List Event) (quiet : IsQuiet die) (given : RunsOn head die lines log after last)
         (calm : CalmFor (numbers_named head) die lines) → All (λ line. is_arming line ≡ false) lines → IsCalm (given.run calm).run.events }
 {}
 
 /// The image of the cells that such a run on an image leaves is read again, as this head and these cells: no pad cell is charged.
 pub fn image_runs_leave_images()
-    ensures { (head : Head) (cells left : List ℕ) (last : DieState) (lines : List Spelled) (written after : Option (List ℕ)) (given : RunsImage head cells lines written after last)
+    ensures { (head : Head) (cells left : List ℕ) (last : DieState) (lines : List Spelled) (log after : List Event) (given : RunsImage head cells lines log after last)
         → AreCells head cells → CalmFor (numbers_named head) given.die lines → HasCells left last
         → AreCells head left × (image_read false (image head left) ≡ Ok (head, left)) }
 {}

@@ -5,7 +5,7 @@ ghost use Rattle.die_image.specs.Image.{is_within_limits, shape_of};
 ghost use Rattle.mem_die.specs.Limits.{IsWithinLimits as FitsDie};
 ghost use Rattle.mem_die.specs.MemState.{mem_state};
 ghost use Rattle.rssd_core.specs.Mount.{EveryBlockLive};
-ghost use Rattle.rssd_io.specs.Faults.{Rose};
+ghost use Rattle.rssd_io.specs.Event.{HasFailed};
 ghost use Rattle.rssd_run.specs.DieRuns.{IsReady, StartsOn, RunsOn, RunsFrontOn};
 ghost use Rattle.rssd_run.specs.Heads.{numbers_named};
 ghost use Rattle.rssd_run.specs.Schemes.{meaning_named};
@@ -89,9 +89,9 @@ fn run_with<C: Scheme + Drop, F: PowerDevice<MemDie, C>, O: Sink>(
     requires scheme { C.meaning scheme ≡ meaning_named head.now.scheme }
     requires ready { IsReady head.now (mem_state die) }
     requires can_step { All CanStep lines.now }
-    ensures done { IfOk result (λ last. RunsOn head.now (mem_state die) lines.now (O.written out.old) (O.written out.new) (mem_state last)) }
-    ensures front { IsErrOf result RunError.Sink → RunsFrontOn head.now (mem_state die) lines.now (O.written out.old) (O.written out.new) }
-    ensures fault { IsErrOf result RunError.Sink → Rose (O.faults out.old) (O.faults out.new) }
+    ensures done { IfOk result (λ last. RunsOn head.now (mem_state die) lines.now (O.log out.old) (O.log out.new) (mem_state last)) }
+    ensures front { IsErrOf result RunError.Sink → RunsFrontOn head.now (mem_state die) lines.now (O.log out.old) (O.log out.new) }
+    ensures fault { IsErrOf result RunError.Sink → HasFailed (O.log out.old) (O.log out.new) }
     ensures no_spare { IsErrOf result RunError.NoSpare → EveryBlockLive (numbers_named head.now).geometry (mem_state die) × (out.new ≡ out.old) }
     ensures memory { IsErrOf result RunError.OutOfMemory → out.new ≡ out.old }
 {
@@ -115,9 +115,9 @@ fn run_made<C: Scheme + Drop, O: Sink>(
     requires scheme { IfOk made (λ scheme. C.meaning scheme ≡ meaning_named head.now.scheme) }
     requires ready { IsReady head.now (mem_state die) }
     requires can_step { All CanStep lines.now }
-    ensures done { IfOk result (λ last. RunsOn head.now (mem_state die) lines.now (O.written out.old) (O.written out.new) (mem_state last)) }
-    ensures front { IsErrOf result RunError.Sink → RunsFrontOn head.now (mem_state die) lines.now (O.written out.old) (O.written out.new) }
-    ensures fault { IsErrOf result RunError.Sink → Rose (O.faults out.old) (O.faults out.new) }
+    ensures done { IfOk result (λ last. RunsOn head.now (mem_state die) lines.now (O.log out.old) (O.log out.new) (mem_state last)) }
+    ensures front { IsErrOf result RunError.Sink → RunsFrontOn head.now (mem_state die) lines.now (O.log out.old) (O.log out.new) }
+    ensures fault { IsErrOf result RunError.Sink → HasFailed (O.log out.old) (O.log out.new) }
     ensures no_spare { IsErrOf result RunError.NoSpare → EveryBlockLive (numbers_named head.now).geometry (mem_state die) × (out.new ≡ out.old) }
     ensures memory { IsErrOf result RunError.OutOfMemory → out.new ≡ out.old }
 {
@@ -144,9 +144,9 @@ pub fn run_on<O: Sink>(
     requires within { is_within_limits head.now ≡ true }
     requires ready { IsReady head.now (mem_state die) }
     requires can_step { All CanStep lines.now }
-    ensures done { IfOk result (λ last. RunsOn head.now (mem_state die) lines.now (O.written out.old) (O.written out.new) (mem_state last)) }
-    ensures front { IsErrOf result RunError.Sink → RunsFrontOn head.now (mem_state die) lines.now (O.written out.old) (O.written out.new) }
-    ensures fault { IsErrOf result RunError.Sink → Rose (O.faults out.old) (O.faults out.new) }
+    ensures done { IfOk result (λ last. RunsOn head.now (mem_state die) lines.now (O.log out.old) (O.log out.new) (mem_state last)) }
+    ensures front { IsErrOf result RunError.Sink → RunsFrontOn head.now (mem_state die) lines.now (O.log out.old) (O.log out.new) }
+    ensures fault { IsErrOf result RunError.Sink → HasFailed (O.log out.old) (O.log out.new) }
     ensures no_spare { IsErrOf result RunError.NoSpare → EveryBlockLive (numbers_named head.now).geometry (mem_state die) × (out.new ≡ out.old) }
     ensures memory { IsErrOf result RunError.OutOfMemory → out.new ≡ out.old }
 {

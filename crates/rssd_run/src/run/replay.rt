@@ -4,7 +4,7 @@ ghost use Rattle.std.specs.List.{All};
 ghost use Rattle.die_image.specs.declared.head.ImageHead.{ImageHead as Head};
 ghost use Rattle.die_image.specs.Image.{is_within_limits, shape_of};
 ghost use Rattle.mem_die.specs.MemState.{mem_state, IsNew};
-ghost use Rattle.rssd_io.specs.Faults.{Rose};
+ghost use Rattle.rssd_io.specs.Event.{Event, HasFailed};
 ghost use Rattle.rssd_script.specs.declared.lines.Line.{Line as Spelled};
 ghost use Rattle.rssd_script.specs.Scripts.{Reads};
 ghost use Rattle.rssd_run.specs.Calm.{is_arming, IsCalm, NeverSpends};
@@ -46,9 +46,9 @@ pub fn replay<O: Sink>(
 ) -> Result<(), RunError>
     requires within { is_within_limits head.now ≡ true }
     requires can_step { All CanStep lines.now }
-    ensures done { OnOk result (Replays head.now lines.now (O.written out.old) (O.written out.new)) }
-    ensures front { IsErrOf result RunError.Sink → ReplaysFront head.now lines.now (O.written out.old) (O.written out.new) }
-    ensures fault { IsErrOf result RunError.Sink → Rose (O.faults out.old) (O.faults out.new) }
+    ensures done { OnOk result (Replays head.now lines.now (O.log out.old) (O.log out.new)) }
+    ensures front { IsErrOf result RunError.Sink → ReplaysFront head.now lines.now (O.log out.old) (O.log out.new) }
+    ensures fault { IsErrOf result RunError.Sink → HasFailed (O.log out.old) (O.log out.new) }
     ensures spare { IsErrOf result RunError.NoSpare → ⊥ }
     ensures memory { IsErrOf result RunError.OutOfMemory → out.new ≡ out.old }
 {
@@ -63,30 +63,30 @@ pub fn replay<O: Sink>(
 /// a cut is afterwards old or new; no cell's charge falls between erases of its block; a second write is declined exactly where
 /// no cells above the old carry the sector; a powered write fails only where die faults rose.
 pub fn replays_keep_the_headline()
-    ensures { (head : Head) (lines : List Spelled) (written after : Option (List ℕ)) (given : Replays head lines written after)
+    ensures { (head : Head) (lines : List Spelled) (log after : List Event) (given : Replays head lines log after)
         → AllKeepHeadline (numbers_named head) given.run.events }
 {}
 
 /// From any view of a replay to any later one, no cell's charge falls between erases of its block.
 pub fn charge_never_falls_in_a_replay()
-    ensures { (head : Head) (lines : List Spelled) (written after : Option (List ℕ)) (given : Replays head lines written after)
+    ensures { (head : Head) (lines : List Spelled) (log after : List Event) (given : Replays head lines log after)
         → ChargeNeverFalls given.before given.run.events }
 {}
 
 /// The headline is kept too by each line of a replay whose sink failed, up to the line whose reply it did not take whole.
 pub fn cut_off_replays_keep_the_headline()
-    ensures { (head : Head) (lines : List Spelled) (written after : Option (List ℕ)) (given : ReplaysFront head lines written after)
+    ensures { (head : Head) (lines : List Spelled) (log after : List Event) (given : ReplaysFront head lines log after)
         → AllKeepHeadline (numbers_named head) (given.run.events ++ given.run.last ∷ []) }
 {}
 
 /// Where no line of a replay is `cut` or `failread`, no reply is `fault` or `no spare`, and none is `off` before one is `no memory`.
 pub fn replays_without_failures_are_calm()
-    ensures { (head : Head) (lines : List Spelled) (written after : Option (List ℕ)) (given : Replays head lines written after)
+    ensures { (head : Head) (lines : List Spelled) (log after : List Event) (given : Replays head lines log after)
         → All (λ line. is_arming line ≡ false) lines → IsCalm given.run.events }
 {}
 
 /// A replay of a script never answers `spent`: its record numbers stay far below 2^62.
 pub fn replays_never_spend_the_record_numbers()
-    ensures { (head : Head) (text : List ℕ) (lines : List Spelled) (written after : Option (List ℕ)) (given : Replays head lines written after)
+    ensures { (head : Head) (text : List ℕ) (lines : List Spelled) (log after : List Event) (given : Replays head lines log after)
         → Reads text lines → All NeverSpends given.run.events }
 {}

@@ -1,10 +1,9 @@
 //! A script from a source, in pieces: to its end, or to one byte past the most that a script may have. The text is not held
 //! beside its lines.
-ghost use Rattle.std.specs.Prelude.{◌≡◌, [], IfOk, OnOk, IfErr, IsErrOf};
+ghost use Rattle.std.specs.Prelude.{[], IfOk, OnOk, IfErr};
 ghost use Rattle.std.specs.List.{All};
-ghost use Rattle.rssd_io.specs.Faults.{Rose};
 ghost use Rattle.rssd_script.specs.Readers.{HasRead};
-ghost use Rattle.rssd_run.specs.ReadScript.{ReadsAll, RefusesRead, HasReadAll};
+ghost use Rattle.rssd_run.specs.ReadScript.{ReadsAll, RefusesRead, TakesScript, HasReadAll};
 ghost use Rattle.rssd_run.specs.Shows.{CanStep};
 
 use rssd_io::Source;
@@ -28,9 +27,9 @@ pub enum ReadError {
 /// Feeds a reader what the source has left. Each turn takes at least one byte, or ends.
 fn feed_all<T: Source>(reader: &mut ScriptReader, script: &mut T) -> Result<(), ReadError>
     requires { HasRead reader.old [] }
-    ensures read { OnOk result (HasReadAll (T.left script.old) (T.left script.new) reader.new) }
-    ensures refused { IfErr result (RefusesRead (T.left script.old)) }
-    ensures fault { IsErrOf result ReadError.Fault → Rose (T.faults script.old) (T.faults script.new) }
+    ensures read { OnOk result (HasReadAll (T.log script.old) (T.log script.new) reader.new) }
+    ensures refused { IfErr result (RefusesRead (T.log script.old) (T.log script.new)) }
+    ensures bounded { TakesScript (T.log script.old) (T.log script.new) }
 {
     let mut piece = [0u8; PIECE];
     let mut room = MOST_BYTES + 1;
@@ -54,12 +53,12 @@ fn feed_all<T: Source>(reader: &mut ScriptReader, script: &mut T) -> Result<(), 
 ///
 /// # Errors
 ///
-/// `Fault` only where the source's count of faults rose, and a refusal by the text that the source had left.
+/// `Fault` exactly where a take failed, and a refusal by the text that was taken.
 pub fn read_script<T: Source>(alloc: Global, script: &mut T) -> Result<Vec<Line>, ReadError>
-    ensures lines { IfOk result (λ lines. ReadsAll (T.left script.old) (T.left script.new) lines.items) }
+    ensures lines { IfOk result (λ lines. ReadsAll (T.log script.old) (T.log script.new) lines.items) }
     ensures can_step { IfOk result (λ lines. All CanStep lines.items) }
-    ensures refused { IfErr result (RefusesRead (T.left script.old)) }
-    ensures fault { IsErrOf result ReadError.Fault → Rose (T.faults script.old) (T.faults script.new) }
+    ensures refused { IfErr result (RefusesRead (T.log script.old) (T.log script.new)) }
+    ensures bounded { TakesScript (T.log script.old) (T.log script.new) }
 {
     let mut reader = ScriptReader::new(alloc);
     feed_all(&mut reader, script)?;

@@ -3,7 +3,8 @@
 ghost use Rattle.std.specs.Prelude.{◌≡◌, ℕ, List, map, string_bytes, true, false};
 ghost use Rattle.die_image.specs.Image.{is_within_limits};
 ghost use Rattle.rssd_run.specs.declared.status.Status.{Status as How};
-ghost use Rattle.rssd_run.specs.ReadImage.{TakesNoMore};
+ghost use Rattle.rssd_run.specs.ReadScript.{TakesScript};
+ghost use Rattle.rssd_run.specs.ReadImage.{TakesImage};
 ghost use Rattle.rssd_run.specs.Statuses.{Call, input, output, number_of};
 ghost use Rattle.rssd_run.specs.Top.{Says, SaysFormat, SaysOf, SaysReplay, SaysRun, SaysUpgrade, LeavesImage, LeavesImageOut, LeavesScript, OfSpelled};
 ghost use Rattle.rssd_words.specs.Commands.{IsWithin};
@@ -28,8 +29,8 @@ fn answer_replay<T: Source, O: Sink>(
     out: &mut O,
 ) -> Status
     requires { is_within_limits head.now ≡ true }
-    ensures { SaysReplay head.now (input (T.left script.old) (T.left script.new) (T.faults script.old) (T.faults script.new))
-        (output (O.written out.old) (O.written out.new) (O.faults out.old) (O.faults out.new)) result }
+    ensures says { SaysReplay head.now (input (T.log script.old) (T.log script.new)) (output (O.log out.old) (O.log out.new)) result }
+    ensures script_bounded { TakesScript (T.log script.old) (T.log script.new) }
 {
     let lines = match read_script(alloc, script) {
         Ok(lines) => lines,
@@ -37,7 +38,10 @@ fn answer_replay<T: Source, O: Sink>(
         Err(ReadError::Refused(why)) => return refuse_script(out, why),
     };
     match replay(alloc, head, &lines, out) {
-        Ok(()) => Status::Done,
+        Ok(()) => match out.flush() {
+            Ok(()) => Status::Done,
+            Err(_) => Status::WriteFault,
+        },
         Err(RunError::Sink) => Status::WriteFault,
         Err(RunError::OutOfMemory) => Status::OutOfMemory,
         Err(RunError::NoSpare) => unreachable!(),
@@ -52,11 +56,12 @@ fn answer_run<I: Source, T: Source, O: Sink, G: Sink>(
     out: &mut O,
     image_out: &mut G,
 ) -> Status
-    ensures says { SaysRun (input (I.left image.old) (I.left image.new) (I.faults image.old) (I.faults image.new))
-        (input (T.left script.old) (T.left script.new) (T.faults script.old) (T.faults script.new))
-        (output (O.written out.old) (O.written out.new) (O.faults out.old) (O.faults out.new))
-        (output (G.written image_out.old) (G.written image_out.new) (G.faults image_out.old) (G.faults image_out.new)) result }
-    ensures no_more { TakesNoMore false (I.left image.old) (I.left image.new) }
+    ensures says { SaysRun (input (I.log image.old) (I.log image.new))
+        (input (T.log script.old) (T.log script.new))
+        (output (O.log out.old) (O.log out.new))
+        (output (G.log image_out.old) (G.log image_out.new)) result }
+    ensures script_bounded { TakesScript (T.log script.old) (T.log script.new) }
+    ensures image_bounded { TakesImage false (I.log image.old) (I.log image.new) }
 {
     let lines = match read_script(alloc, script) {
         Ok(lines) => lines,
@@ -77,6 +82,9 @@ fn answer_run<I: Source, T: Source, O: Sink, G: Sink>(
             return Status::BadImage;
         }
     };
+    if out.flush().is_err() {
+        return Status::WriteFault;
+    }
     match give_image(&head, cells_of(&die), image_out) {
         Ok(()) => Status::Done,
         Err(_) => Status::WriteFault,
@@ -86,7 +94,7 @@ fn answer_run<I: Source, T: Source, O: Sink, G: Sink>(
 /// Answers `format`.
 fn answer_format<G: Sink>(alloc: Global, head: &ImageHead, image_out: &mut G) -> Status
     requires { is_within_limits head.now ≡ true }
-    ensures { SaysFormat head.now (output (G.written image_out.old) (G.written image_out.new) (G.faults image_out.old) (G.faults image_out.new)) result }
+    ensures { SaysFormat head.now (output (G.log image_out.old) (G.log image_out.new)) result }
 {
     let Ok(cells) = blank_cells(alloc, head) else {
         return Status::OutOfMemory;
@@ -104,10 +112,10 @@ fn answer_upgrade<I: Source, O: Sink, G: Sink>(
     out: &mut O,
     image_out: &mut G,
 ) -> Status
-    ensures says { SaysUpgrade (input (I.left image.old) (I.left image.new) (I.faults image.old) (I.faults image.new))
-        (output (O.written out.old) (O.written out.new) (O.faults out.old) (O.faults out.new))
-        (output (G.written image_out.old) (G.written image_out.new) (G.faults image_out.old) (G.faults image_out.new)) result }
-    ensures no_more { TakesNoMore true (I.left image.old) (I.left image.new) }
+    ensures says { SaysUpgrade (input (I.log image.old) (I.log image.new))
+        (output (O.log out.old) (O.log out.new))
+        (output (G.log image_out.old) (G.log image_out.new)) result }
+    ensures image_bounded { TakesImage true (I.log image.old) (I.log image.new) }
 {
     let (head, cells) = match read_image(ImageReader::old(alloc), image) {
         Ok(read) => read,
@@ -132,10 +140,10 @@ fn answer_command<I: Source, T: Source, O: Sink, G: Sink>(
     requires { IsWithin command.now }
     ensures says { (words : List (List ℕ)) → SaysOf command.now (record {
       words = words;
-      image = input (I.left image.old) (I.left image.new) (I.faults image.old) (I.faults image.new);
-      script = input (T.left script.old) (T.left script.new) (T.faults script.old) (T.faults script.new);
-      out = output (O.written out.old) (O.written out.new) (O.faults out.old) (O.faults out.new);
-      image_out = output (G.written image_out.old) (G.written image_out.new) (G.faults image_out.old) (G.faults image_out.new);
+      image = input (I.log image.old) (I.log image.new);
+      script = input (T.log script.old) (T.log script.new);
+      out = output (O.log out.old) (O.log out.new);
+      image_out = output (G.log image_out.old) (G.log image_out.new);
     }) result }
     ensures same_script { LeavesScript command.now → script.new ≡ script.old }
     ensures same_image { LeavesImage command.now → image.new ≡ image.old }
@@ -161,10 +169,10 @@ fn answer<I: Source, T: Source, O: Sink, G: Sink>(
 ) -> Status
     ensures says { Says (record {
       words = map string_bytes words.now;
-      image = input (I.left image.old) (I.left image.new) (I.faults image.old) (I.faults image.new);
-      script = input (T.left script.old) (T.left script.new) (T.faults script.old) (T.faults script.new);
-      out = output (O.written out.old) (O.written out.new) (O.faults out.old) (O.faults out.new);
-      image_out = output (G.written image_out.old) (G.written image_out.new) (G.faults image_out.old) (G.faults image_out.new);
+      image = input (I.log image.old) (I.log image.new);
+      script = input (T.log script.old) (T.log script.new);
+      out = output (O.log out.old) (O.log out.new);
+      image_out = output (G.log image_out.old) (G.log image_out.new);
     }) result }
     ensures same_script { OfSpelled LeavesScript (map string_bytes words.now) → script.new ≡ script.old }
     ensures same_image { OfSpelled LeavesImage (map string_bytes words.now) → image.new ≡ image.old }
@@ -180,15 +188,15 @@ fn answer<I: Source, T: Source, O: Sink, G: Sink>(
 ///
 /// - `replay SCHEME BLOCKS PAGES SECTORS REUSE` reads the script to its end, mounts a blank die, and gives the reply to each
 ///   line with its line feed to `out` in one piece.
-/// - `run` reads the script and then the image, mounts a die of its cells, gives the replies, and then gives the image of the
-///   cells as they stand to `image_out`: the head in one piece, and each page in one.
+/// - `run` reads the script and then the image, mounts a die of its cells, gives the replies, has `out` hand them on, and then
+///   gives the image of the cells as they stand to `image_out`: the head in one piece, and each page in one.
 /// - `format SCHEME BLOCKS PAGES SECTORS REUSE` gives the image of a blank die to `image_out`.
 /// - `upgrade` reads an image of version 1, and gives the image of version 2 with the same head and cells to `image_out`.
 ///
 /// The other commands are not known yet: their words are bad. A source that the command does not read, and a sink that it does
 /// not write, are as before the call.
 ///
-/// The status is 0 where all input was read to its end and all output was given; 2 where the words are no command; 3 where the
+/// The status is 0 where all input was read to its end and all output was given and handed on; 2 where the words are no command; 3 where the
 /// script is refused; 4 where the image is, or each of its blocks has a live record; 5 where a source failed; 6 where a sink
 /// failed; 7 for want of memory. Before 2, 3 and 4 one line to `out` says so.
 pub fn rssd<I: Source, T: Source, O: Sink, G: Sink>(
@@ -201,10 +209,10 @@ pub fn rssd<I: Source, T: Source, O: Sink, G: Sink>(
 ) -> u8
     ensures status { let call : Call = record {
       words = map string_bytes words.now;
-      image = input (I.left image.old) (I.left image.new) (I.faults image.old) (I.faults image.new);
-      script = input (T.left script.old) (T.left script.new) (T.faults script.old) (T.faults script.new);
-      out = output (O.written out.old) (O.written out.new) (O.faults out.old) (O.faults out.new);
-      image_out = output (G.written image_out.old) (G.written image_out.new) (G.faults image_out.old) (G.faults image_out.new);
+      image = input (I.log image.old) (I.log image.new);
+      script = input (T.log script.old) (T.log script.new);
+      out = output (O.log out.old) (O.log out.new);
+      image_out = output (G.log image_out.old) (G.log image_out.new);
     } in (status : How) × (result ≡ number_of status) × Says call status }
     ensures same_script { OfSpelled LeavesScript (map string_bytes words.now) → script.new ≡ script.old }
     ensures same_image { OfSpelled LeavesImage (map string_bytes words.now) → image.new ≡ image.old }

@@ -1,6 +1,9 @@
 -- Each cause has its line.
 use Rattle.rssd_run.proofs.refusal.refuse_image.Goals as goal
 
+pub returns-in-Magic : goal.returns-in-Magic
+returns-in-Magic g c = rw c.in-Magic.is (c.refuse_with.ensures.status, c.refuse_with.ensures.line)
+
 pub returns-in-Version : goal.returns-in-Version
 returns-in-Version g c = rw c.in-Version.is (c.refuse_with-in-Version.ensures.status, c.refuse_with-in-Version.ensures.line)
 

@@ -1,7 +1,9 @@
 -- A line more is a step more, and its text is given after the others.
-use Rattle.std.proofs.Common.{◌≡◌, ℕ, ◌+◌, ◌++◌, ◌∷◌, [], All, length, take, ◌∙◌, refl, sym, ap, arith, false, Result, Ok, Err, OnErr, length-take}
+use Rattle.std.proofs.Common.{◌≡◌, ℕ, ◌+◌, ◌++◌, ◌∷◌, [], All, length, take, ◌∙◌, refl, sym, ap, subst, arith, false, Result, Ok, Err, OnErr, length-take, append-nil, List}
 use Rattle.std.proofs.lemmas.List.{take_more}
 use Rattle.std.proofs.lemmas.List.Elements.{All-get_or}
+use Rattle.rssd_io.specs.Event.{moved, failed}
+use Rattle.rssd_io.proofs.Logs.{more_came, came_behind, gave_failed}
 use Rattle.rssd_script.specs.Replies.{reply_line}
 use Rattle.rssd_run.specs.Run.{is_cut}
 use Rattle.rssd_run.proofs.Runs.{run_of_none, run_of_more, run_cut_off, calm_now, calm_on}
@@ -10,13 +12,13 @@ use Rattle.rssd_run.proofs.run.run_lines.Goals as goal
 pub loop-line-init : goal.loop-line-init
 loop-line-init g c = record {
   numbers = λ d numbers. numbers;
-  runs = λ d numbers before shows calm. (before, shows, calm, run_of_none d before (g.O.Sink.written c.args.out.now));
-  faults = refl;
+  runs = λ d numbers before shows calm. (before, shows, calm, run_of_none d before (g.O.Sink.log c.args.out.now));
+  grew = ([], sym (append-nil (g.O.Sink.log c.args.out.now)));
 }
 
 pub loop-line-preserved : goal.loop-line-preserved
 loop-line-preserved g c =
-    let written = g.O.Sink.written in
+    let log = g.O.Sink.log in
     let lines = c.args.lines.now in
     let i = c.loop-line.line-index in
     let line = c.line-item.result in
@@ -24,7 +26,7 @@ loop-line-preserved g c =
     let more : take (i + 1) lines ≡ take i lines ++ line ∷ [] = take_more lines i line (omega arith) ∙ ap (λ item. take i lines ++ item ∷ []) (sym c.line-item.is) in
     let among : All (λ l. is_cut l ≡ false) lines → is_cut line ≡ false = λ all. ap is_cut c.line-item.is ∙ All-get_or (λ l. is_cut l ≡ false) lines i line (omega arith) all in
     let text : c.as_slice.result.now ≡ reply_line reply = c.as_slice.ensures ∙ c.print_reply.ensures in
-    let given = rw text at c.in_ok-give.ensures.ok in
+    let given = subst (λ (xs : List ℕ). log c.give.new.self ≡ log c.loop-line.out ++ moved xs ∷ []) text c.in_ok-give.ensures.log in
     record {
       numbers = λ d numbers. c.step-reply.ensures.numbers d (c.loop-line.invariant.numbers d numbers);
       runs = λ d numbers before shows calm.
@@ -33,9 +35,9 @@ loop-line-preserved g c =
             s.0,
             s.1,
             calm_on d so.0 s.0 line reply lines s.2 among so.2,
-            rw more (run_of_more d before so.0 s.0 (take i lines) line reply (written c.args.out.now) (written c.loop-line.out) (written c.give.new.self) so.3 s.2 given),
+            rw more (run_of_more d before so.0 s.0 (take i lines) line reply (log c.args.out.now) (log c.loop-line.out) (log c.give.new.self) so.3 s.2 given),
           );
-      faults = c.in_ok-give.ensures.cause.kept ∙ c.loop-line.invariant.faults;
+      grew = (c.loop-line.invariant.grew.0 ++ moved c.as_slice.result.now ∷ [], more_came _ _ _ c.loop-line.invariant.grew.0 _ c.loop-line.invariant.grew.1 c.in_ok-give.ensures.log);
     }
 
 pub returns-in_err-give-clause-numbers : goal.returns-in_err-give-clause-numbers
@@ -47,7 +49,7 @@ on_err (Err e) P holds = holds
 
 pub returns-in_err-give-clause-err : goal.returns-in_err-give-clause-err
 returns-in_err-give-clause-err g c =
-    let written = g.O.Sink.written in
+    let log = g.O.Sink.log in
     let lines = c.args.lines.now in
     let i = c.loop-line.line-index in
     let line = c.line-item.result in
@@ -56,11 +58,23 @@ returns-in_err-give-clause-err g c =
     let count : i ≡ length (take i lines) = omega (arith, length-take i lines) in
     let front : take i lines ++ line ∷ [] ≡ take (length (take i lines) + 1) lines = sym more ∙ ap (λ (n : ℕ). take (n + 1) lines) count in
     let text : c.as_slice.result.now ≡ reply_line reply = c.as_slice.ensures ∙ c.print_reply.ensures in
-    let given = rw text at c.in_err-give.ensures.err.1 in
+    let given = subst (λ (xs : List ℕ). log c.give.new.self ≡ log c.loop-line.out ++ moved (take c.in_err-give.ensures.log.0 xs) ∷ failed ∷ []) text c.in_err-give.ensures.log.1 in
     on_err c.from_residual.result _ (λ d numbers before shows calm.
     let so = c.loop-line.invariant.runs d numbers before shows calm in
     let s = c.step-reply.ensures.step d (c.loop-line.invariant.numbers d numbers) so.0 so.1 (calm_now d so.0.device.die lines so.2) in (
       s.0,
       s.1,
-      run_cut_off d before so.0 s.0 (take i lines) line reply (written c.args.out.now) (written c.loop-line.out) (written c.give.new.self) so.3 s.2 lines front c.in_err-give.ensures.err.0 given,
+      run_cut_off d before so.0 s.0 (take i lines) line reply (log c.args.out.now) (log c.loop-line.out) (log c.give.new.self) so.3 s.2 lines front c.in_err-give.ensures.log.0 given,
     ))
+
+pub returns-in_err-give-clause-fault : goal.returns-in_err-give-clause-fault
+returns-in_err-give-clause-fault g c =
+    let log = g.O.Sink.log in
+    let grew = c.loop-line.invariant.grew in
+    on_err c.from_residual.result _ (gave_failed (log c.args.out.now) (log c.loop-line.out) (log c.give.new.self) grew.0 c.as_slice.result.now c.in_err-give.ensures.log.0 grew.1 c.in_err-give.ensures.log.1)
+
+pub returns-in_err-give-clause-grew : goal.returns-in_err-give-clause-grew
+returns-in_err-give-clause-grew g c =
+    let log = g.O.Sink.log in
+    let grew = c.loop-line.invariant.grew in
+    (grew.0 ++ moved (take c.in_err-give.ensures.log.0 c.as_slice.result.now) ∷ failed ∷ [], came_behind (log c.args.out.now) (log c.loop-line.out) (log c.give.new.self) grew.0 _ grew.1 c.in_err-give.ensures.log.1)

@@ -1,5 +1,6 @@
-use Rattle.std.proofs.Common.{◌≡◌, take}
+use Rattle.std.proofs.Common.{take}
 use Rattle.rssd_core.specs.DeviceValue.{Numbers}
+use Rattle.rssd_io.specs.Event.{Grows}
 use Rattle.rssd_run.specs.View.{View}
 use Rattle.rssd_run.specs.Run.{RunOf, CalmFor}
 use Rattle.rssd_run.specs.Shows.{HasNumbers, Shows}
@@ -10,6 +11,6 @@ invariant-loop-line g l = record {
   numbers : (d : Numbers) → HasNumbers d (g.S.Stepping.session l.fn.session).holding → HasNumbers d (g.S.Stepping.session l.session).holding;
   runs : (d : Numbers) → HasNumbers d (g.S.Stepping.session l.fn.session).holding → (before : View) → Shows d (g.S.Stepping.session l.fn.session) before → CalmFor d before.device.die l.lines
       → (now : View) × Shows d (g.S.Stepping.session l.session) now × CalmFor d now.device.die l.lines
-      × RunOf d before (take l.line-index l.lines) now (g.O.Sink.written l.fn.out) (g.O.Sink.written l.out);
-  faults : g.O.Sink.faults l.out ≡ g.O.Sink.faults l.fn.out;
+      × RunOf d before (take l.line-index l.lines) now (g.O.Sink.log l.fn.out) (g.O.Sink.log l.out);
+  grew : Grows (g.O.Sink.log l.fn.out) (g.O.Sink.log l.out);
 }

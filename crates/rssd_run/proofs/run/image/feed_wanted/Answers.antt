@@ -1,20 +1,32 @@
 -- Each piece is of what the reader wants, and so within its reach.
-use Rattle.std.proofs.Common.{ℕ, ◌<◌, ◌≤◌, ◌++◌, List, length, take, arith, refl, ◌∙◌}
+use Rattle.std.proofs.Common.{ℕ, ◌<◌, ◌≤◌, ◌++◌, List, length, take, arith, refl, inl, inr}
 use Rattle.std.proofs.lemmas.List.{take-append-le, length-take}
 use Rattle.die_image.specs.Image.{wanted, Fed}
-use Rattle.rssd_run.proofs.ReadImage.{taken, falls, fed_more, fed_same, fed_kept}
+use Rattle.rssd_run.proofs.ReadImage.{took_none, taken, taken_failed, fault, stuck, falls, fed_none, fed_more, fed_same, has_ended}
 use Rattle.rssd_run.proofs.run.image.feed_wanted.Goals as goal
+
+pub returns-in-Ok-eq0-clause-fed : goal.returns-in-Ok-eq0-clause-fed
+returns-in-Ok-eq0-clause-fed g c =
+    fed_same _ _ _ c.args.reader.now c.loop-room.reader c.loop-room.invariant.fed (took_none _ _ c.in-Ok-eq0.field-0 c.take.new.into c.in-Ok-eq0.field-0-test c.in-Ok-eq0.ensures.log)
+
+pub returns-in-Ok-eq0-clause-all : goal.returns-in-Ok-eq0-clause-all
+returns-in-Ok-eq0-clause-all g c =
+    inl (has_ended _ _ _ c.args.reader.now c.loop-room.reader c.loop-room.invariant.fed (took_none _ _ c.in-Ok-eq0.field-0 c.take.new.into c.in-Ok-eq0.field-0-test c.in-Ok-eq0.ensures.log))
 
 pub returns-in-Ok-eq0-clause-bounded : goal.returns-in-Ok-eq0-clause-bounded
 returns-in-Ok-eq0-clause-bounded g c =
-    taken _ _ c.args.reader.now c.loop-room.reader (fed_same _ (g.I.Source.left c.loop-room.image) _ c.args.reader.now c.loop-room.reader c.loop-room.invariant.fed (rw c.in-Ok-eq0.field-0-test at c.in-Ok-eq0.ensures.bytes.0))
+    taken _ _ c.args.reader.now c.loop-room.reader
+    (fed_same _ _ _ c.args.reader.now c.loop-room.reader c.loop-room.invariant.fed (took_none _ _ c.in-Ok-eq0.field-0 c.take.new.into c.in-Ok-eq0.field-0-test c.in-Ok-eq0.ensures.log))
+
+pub returns-in-Err-feed-clause-refused : goal.returns-in-Err-feed-clause-refused
+returns-in-Err-feed-clause-refused g c = stuck c.args.reader.now.is_old _ _ _ c.args.reader.now c.loop-room.reader _ c.loop-room.invariant.fed c.in-Ok.ensures.log
 
 pub returns-in-Err-feed-clause-bounded : goal.returns-in-Err-feed-clause-bounded
 returns-in-Err-feed-clause-bounded g c =
     let piece : List ℕ = take c.in-Ok.count c.take.new.into in
     let next : Fed = record c.loop-room.reader { bytes = c.loop-room.reader.bytes ++ piece } in
     let fits : length piece ≤ wanted c.loop-room.reader = omega (arith, c.in-Ok.ensures.bound, c.take.auto.into, length-take c.loop-room.room c.loop-room.piece) in
-    taken _ _ c.args.reader.now next (fed_more _ (g.I.Source.left c.loop-room.image) _ c.args.reader.now c.loop-room.reader next piece c.loop-room.invariant.fed c.in-Ok.ensures.bytes.0 fits refl)
+    taken _ _ c.args.reader.now next (fed_more _ _ _ c.args.reader.now c.loop-room.reader next piece c.loop-room.invariant.fed c.in-Ok.ensures.log fits refl)
 
 pub loop-room-smaller : goal.loop-room-smaller
 loop-room-smaller g c =
@@ -30,14 +42,15 @@ loop-room-preserved g c =
     let fits : length piece ≤ wanted c.loop-room.reader = omega (arith, c.in-Ok.ensures.bound, c.take.auto.into, length-take c.loop-room.room c.loop-room.piece) in
     let in_front : c.in-Ok.count ≤ length c.take.new.into = c.in-Ok.ensures.bound.0 in
     record {
-      fed = fed_more _ (g.I.Source.left c.loop-room.image) _ c.args.reader.now c.loop-room.reader c.feed.new.self piece c.loop-room.invariant.fed c.in-Ok.ensures.bytes.0 fits (rw take-append-le at c.in-Ok-feed.ensures.fed.1);
+      fed = fed_more _ _ _ c.args.reader.now c.loop-room.reader c.feed.new.self piece c.loop-room.invariant.fed c.in-Ok.ensures.log fits (rw take-append-le at c.in-Ok-feed.ensures.fed.1);
       room = c.next_count-room-in-Ok-feed.ensures;
-      faults = c.in-Ok.ensures.cause.kept ∙ c.loop-room.invariant.faults;
     }
 
+pub returns-in-Err-clause-refused : goal.returns-in-Err-clause-refused
+returns-in-Err-clause-refused g c = fault c.args.reader.now.is_old _ _ _ c.args.reader.now c.loop-room.reader c.loop-room.invariant.fed c.in-Err.ensures.log
+
 pub returns-in-Err-clause-bounded : goal.returns-in-Err-clause-bounded
-returns-in-Err-clause-bounded g c =
-    taken _ _ c.args.reader.now c.loop-room.reader (fed_kept _ (g.I.Source.left c.loop-room.image) _ c.args.reader.now c.loop-room.reader c.loop-room.invariant.fed c.in-Err.ensures.bytes)
+returns-in-Err-clause-bounded g c = taken_failed _ _ _ c.args.reader.now c.loop-room.reader c.loop-room.invariant.fed c.in-Err.ensures.log
 
 pub returns-clause-bounded : goal.returns-clause-bounded
 returns-clause-bounded g c = taken _ _ c.args.reader.now c.loop-room.reader c.loop-room.invariant.fed

@@ -1,4 +1,4 @@
--- The reader was fed what the source gave, and no more than it wanted.
+-- The reader was fed what was taken, and no more than it wanted.
 use Rattle.std.proofs.Common.{◌≡◌, ◌-◌, min, length}
 use Rattle.die_image.specs.Image.{wanted}
 use Rattle.rssd_run.specs.ReadImage.{IsFed}
@@ -6,9 +6,8 @@ use Rattle.rssd_run.proofs.run.image.feed_wanted.Given as goal
 
 abbrev pub invariant-loop-room : goal.invariant-loop-room
 invariant-loop-room g l = record {
-  fed : IsFed (g.I.Source.left l.fn.image) (g.I.Source.left l.image) l.fn.reader l.reader;
+  fed : IsFed (g.I.Source.log l.fn.image) (g.I.Source.log l.image) l.fn.reader l.reader;
   room : l.room ≡ min (wanted l.reader) 4_096;
-  faults : g.I.Source.faults l.image ≡ g.I.Source.faults l.fn.image;
 }
 
 -- no reader is fed more than the longest image and a byte

@@ -3,4 +3,4 @@ use Rattle.rssd_run.proofs.Calm.{images_calmly}
 use Rattle.rssd_run.proofs.run.image_run.image_runs_without_failures_are_calm.Goals as goal
 
 pub returns : goal.returns
-returns c = λ head die last lines written after quiet given. images_calmly head die lines written after last quiet given
+returns c = λ head die last lines log after quiet given. images_calmly head die lines log after last quiet given

@@ -4,4 +4,4 @@ use Rattle.rssd_run.proofs.Headline.{charge_never_falls}
 use Rattle.rssd_run.proofs.run.replay.charge_never_falls_in_a_replay.Goals as goal
 
 pub returns : goal.returns
-returns c = λ head lines written after given. charge_never_falls (numbers_named head) given.before given.run.events given.after given.run.run
+returns c = λ head lines log after given. charge_never_falls (numbers_named head) given.before given.run.events given.after given.run.run

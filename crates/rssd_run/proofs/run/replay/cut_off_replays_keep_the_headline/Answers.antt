@@ -5,4 +5,4 @@ use Rattle.rssd_run.proofs.Headline.{runs_keep_headline}
 use Rattle.rssd_run.proofs.run.replay.cut_off_replays_keep_the_headline.Goals as goal
 
 pub returns : goal.returns
-returns c = λ head lines written after given. runs_keep_headline (numbers_named head) given.before (given.run.events ++ given.run.last ∷ []) given.after given.run.run
+returns c = λ head lines log after given. runs_keep_headline (numbers_named head) given.before (given.run.events ++ given.run.last ∷ []) given.after given.run.run

@@ -8,6 +8,5 @@ use Rattle.rssd_run.proofs.run.script.read_script.Goals as goal
 
 pub returns-in-Ok-clause-can_step : goal.returns-in-Ok-clause-can_step
 returns-in-Ok-clause-can_step g c =
-    let read = c.in_ok-feed_all.ensures.read in
-    let reads = c.in-Ok.ensures.reads read.text read.read in
-    All-weaker IsWithinGrammar CanStep can_step c.in-Ok.lines.items (lines_within read.text c.in-Ok.lines.items reads)
+    let read = c.in_ok-feed_all.ensures.read.read in
+    All-weaker IsWithinGrammar CanStep can_step c.in-Ok.lines.items (lines_within _ c.in-Ok.lines.items (c.in-Ok.ensures.reads _ read))

@@ -13,10 +13,10 @@ pub returns-in-Some-clause-says : goal.returns-in-Some-clause-says
 returns-in-Some-clause-says g c =
     let call : Call = record {
       words = map string_bytes c.args.words.now;
-      image = input (g.I.Source.left c.args.image.now) (g.I.Source.left c.answer_command.new.image) (g.I.Source.faults c.args.image.now) (g.I.Source.faults c.answer_command.new.image);
-      script = input (g.T.Source.left c.args.script.now) (g.T.Source.left c.answer_command.new.script) (g.T.Source.faults c.args.script.now) (g.T.Source.faults c.answer_command.new.script);
-      out = output (g.O.Sink.written c.args.out.now) (g.O.Sink.written c.answer_command.new.out) (g.O.Sink.faults c.args.out.now) (g.O.Sink.faults c.answer_command.new.out);
-      image_out = output (g.G.Sink.written c.args.image_out.now) (g.G.Sink.written c.answer_command.new.image_out) (g.G.Sink.faults c.args.image_out.now) (g.G.Sink.faults c.answer_command.new.image_out);
+      image = input (g.I.Source.log c.args.image.now) (g.I.Source.log c.answer_command.new.image);
+      script = input (g.T.Source.log c.args.script.now) (g.T.Source.log c.answer_command.new.script);
+      out = output (g.O.Sink.log c.args.out.now) (g.O.Sink.log c.answer_command.new.out);
+      image_out = output (g.G.Sink.log c.args.image_out.now) (g.G.Sink.log c.answer_command.new.image_out);
     } in
     record {
       command = λ command spells.

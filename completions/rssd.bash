@@ -1,0 +1,19 @@
+# Completion of rssd for bash: source this file, or put it into /usr/share/bash-completion/completions/rssd
+_rssd() {
+    local word=${COMP_WORDS[COMP_CWORD]} command=${COMP_WORDS[1]-} blocks=${COMP_WORDS[3]-} pages=${COMP_WORDS[4]-}
+    COMPREPLY=()
+    if [ "$COMP_CWORD" = 1 ]; then
+        mapfile -t COMPREPLY < <(compgen -W "replay run format upgrade" -- "$word")
+        return
+    fi
+    case $command in replay | format) ;; *) return ;; esac
+    case $COMP_CWORD in
+        2) mapfile -t COMPREPLY < <(compgen -W "plain16 rs16 rs512 coset16 coset512 flip16 flip512 ham16 ham512" -- "$word") ;;
+        # a number has no ending to propose: its range is shown, beside an empty word so that it is not taken
+        3) [ -n "$word" ] || COMPREPLY=(BLOCKS:2..1024 " ") ;;
+        4) [ -n "$word" ] || COMPREPLY=(PAGES:2..128 " ") ;;
+        5) [ -n "$word" ] || COMPREPLY=("SECTORS:1..$(((${blocks:-2} - 1) * ${pages:-2} - 1))" " ") ;;
+        6) [ -n "$word" ] || COMPREPLY=("REUSE:0..${blocks:-2}" " ") ;;
+    esac
+}
+complete -F _rssd rssd ./rssd build/rssd

@@ -1,0 +1,2 @@
+mod Mounted
+mod Writes

@@ -1,0 +1,147 @@
+"""Runs of a workload on a device, in as many scripts as it takes, and what was counted."""
+import glob
+import os
+import tempfile
+from dataclasses import dataclass
+from typing import Optional
+
+from formats import MOST_SCRIPT_BYTES, Scheme
+from image import load
+from program import Kept, play
+from workload import lines_of
+
+STAT_ROOM = len(b"stat\n")
+
+
+@dataclass(frozen=True)
+class Case:
+    """One run: a device, a workload or the parts of a trace, and a seed. `wear` is the lines between two looks at the die."""
+
+    scheme: Scheme
+    blocks: int
+    pages: int
+    sectors: int
+    reuse: int
+    workload: str
+    idle: str
+    writes: int
+    seed: int
+    reuse_asked: str = ""
+    wear: int = 0
+    trace: Optional[str] = None
+
+    @property
+    def words(self):
+        return [self.scheme.name, *map(str, (self.blocks, self.pages, self.sectors, self.reuse))]
+
+    @property
+    def workload_name(self):
+        return f"trace:{os.path.basename(self.trace)}" if self.trace else self.workload
+
+    def lines(self):
+        return trace_lines(self.trace) if self.trace else lines_of(self)
+
+
+def trace_lines(name):
+    """The lines of the parts of a trace, NAME.1.rssd and so on."""
+    paths = sorted(glob.glob(f"{glob.escape(name)}.*.rssd"), key=lambda path: int(path.split(".")[-2]))
+    if not paths:
+        raise FileNotFoundError(f"there is no {name}.1.rssd")
+    for path in paths:
+        with open(path, "rb") as file:
+            yield from file
+
+
+def parts(lines, most_lines):
+    """The lines in scripts that are within the program's limit, with room for a `stat`."""
+    part, size = [], 0
+    for line in lines:
+        if part and (size + len(line) + STAT_ROOM > MOST_SCRIPT_BYTES or most_lines and len(part) >= most_lines):
+            yield part
+            part, size = [], 0
+        part.append(line)
+        size += len(line)
+    yield part
+
+
+def counts(reply):
+    """The five numbers of a reply to `stat`: first, second, declined, moved, erased."""
+    return [int(word) for word in reply.split(" ")[1::2]]
+
+
+def marks_of(script, replies):
+    return [counts(reply) for line, reply in zip(script, replies) if line == b"stat\n"]
+
+
+class Wear:
+    """Erases of each block, as two images show them: a block in which a cell fell was erased."""
+
+    def __init__(self, image):
+        self.erases, self.before = [0] * image.head.blocks, image
+
+    def look(self, image):
+        for block in range(len(self.erases)):
+            pages = image.pages_of(block)
+            old, new = (int.from_bytes(b"".join(seen.pages[pages[0] : pages[-1] + 1]), "little") for seen in (self.before, image))
+            self.erases[block] += bool(old & ~new)
+        self.before = image
+
+
+def run_in_one(case, script):
+    return marks_of(script, play(["replay", *case.words], b"".join(script))), None
+
+
+def run_in_parts(case, scripts):
+    """A run over an image: each script begins with a mount, and its counts begin at zero."""
+    marks, base, wear = [], [0] * 5, None
+    with tempfile.TemporaryDirectory() as folder:
+        die = Kept(folder, case.words)
+        for script in scripts:
+            if case.wear and marks and wear is None:
+                wear = Wear(load(die.image))
+            replies = die.run(b"".join(script) + b"stat\n")
+            marks += [[a + b for a, b in zip(base, mark)] for mark in marks_of(script, replies)]
+            base = [a + b for a, b in zip(base, counts(replies[-1]))]
+            if wear:
+                wear.look(load(die.image))
+    return marks, wear
+
+
+def split_at_stat(lines, most_lines):
+    """The parts of a run that looks at wear: the first `stat` ends a part, so that looking begins there."""
+    lines = iter(lines)
+    front = []
+    for line in lines:
+        front.append(line)
+        if line == b"stat\n":
+            break
+    yield from parts(front, 0)
+    yield from parts(lines, most_lines)
+
+
+def run(case):
+    """The row of a case: its numbers, and what was counted between the first and the last `stat`."""
+    scripts = list(split_at_stat(case.lines(), case.wear) if case.wear else parts(case.lines(), 0))
+    marks, wear = run_in_one(case, scripts[0]) if len(scripts) == 1 else run_in_parts(case, scripts)
+    begin = marks[0] if len(marks) > 1 else [0] * 5
+    first, second, declined, moved, erased = (b - a for a, b in zip(begin, marks[-1]))
+    writes = first + second + declined
+    main_bytes = case.blocks * case.pages * case.scheme.page_bytes
+    row = {
+        "scheme": case.scheme.name, "blocks": case.blocks, "pages": case.pages, "sectors": case.sectors,
+        "load": round(case.sectors / (case.blocks * case.pages), 2), "reuse": case.reuse, "reuse_asked": case.reuse_asked or case.reuse,
+        "workload": case.workload_name, "idle": case.idle, "asked": case.writes, "seed": case.seed,
+        "writes": writes, "first": first, "second": second, "declined": declined, "moved": moved, "erased": erased,
+        "erases_per_1000": per(1000 * erased, writes), "second_percent": per(100 * second, writes), "declined_percent": per(100 * declined, writes),
+        "write_amplification": per(writes + moved, writes), "erased_bytes_per_byte": per(erased * case.pages * case.scheme.page_bytes, writes * case.scheme.sector_bytes),
+        "main_bytes": main_bytes, "die_bytes": case.blocks * case.pages * case.scheme.whole_page, "parts": len(scripts),
+    }
+    seen = wear.erases if wear else None
+    row["wear_least"], row["wear_mean"], row["wear_most"], row["wear_missed"] = (
+        (min(seen), round(sum(seen) / len(seen), 1), max(seen), erased - sum(seen)) if seen else ("", "", "", "")
+    )
+    return row
+
+
+def per(number, whole):
+    return round(number / whole, 3) if whole else 0
