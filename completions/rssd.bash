@@ -3,11 +3,23 @@ _rssd() {
     local word=${COMP_WORDS[COMP_CWORD]} command=${COMP_WORDS[1]-} blocks=${COMP_WORDS[3]-} pages=${COMP_WORDS[4]-}
     COMPREPLY=()
     if [ "$COMP_CWORD" = 1 ]; then
-        mapfile -t COMPREPLY < <(compgen -W "replay run format upgrade" -- "$word")
+        mapfile -t COMPREPLY < <(compgen -W "replay run format make upgrade" -- "$word")
         return
     fi
-    case $command in replay | format) ;; *) return ;; esac
-    case $COMP_CWORD in
+    local at=$COMP_CWORD
+    case $command in
+        replay | format) ;;
+        make)
+            blocks=${COMP_WORDS[5]-} pages=${COMP_WORDS[6]-} at=$((COMP_CWORD - 2))
+            case $COMP_CWORD in
+                2) [ -n "$word" ] || COMPREPLY=(SEED:0..18446744073709551615 " ") ;;
+                3) [ -n "$word" ] || COMPREPLY=(COUNT:0..20000 " ") ;;
+            esac
+            [ "$at" -gt 1 ] || return
+            ;;
+        *) return ;;
+    esac
+    case $at in
         2) mapfile -t COMPREPLY < <(compgen -W "plain16 rs16 rs512 coset16 coset512 flip16 flip512 ham16 ham512" -- "$word") ;;
         # a number has no ending to propose: its range is shown, beside an empty word so that it is not taken
         3) [ -n "$word" ] || COMPREPLY=(BLOCKS:2..1024 " ") ;;

@@ -4,9 +4,16 @@ import re
 from formats import BLOCKS, MOST_ARMED, MOST_DIE_BYTES, MOST_SCRIPT_BYTES, MOST_SECTOR_NUMBER, MOST_WRITE_BYTES, PAGES, SCHEMES, Head
 
 HEAD = ("SCHEME", "BLOCKS", "PAGES", "SECTORS", "REUSE")
-COMMANDS = {"replay": HEAD, "run": (), "format": HEAD, "upgrade": ()}
-TO_COME = ("make", "queue", "worn", "pair", "audit")
+COMMANDS = {
+    "replay": HEAD,
+    "run": (),
+    "format": HEAD,
+    "make": ("SEED", "COUNT", *HEAD),
+    "upgrade": (),
+}
+TO_COME = ("queue", "worn", "pair", "audit")
 READ_A_SCRIPT = ("replay", "run")
+MOST_COUNT = 20_000
 LINES = {"write": 2, "read": 1, "trim": 1, "idle": 1, "cut": 2, "failread": 1, "mount": 0, "stat": 0}
 
 STATUSES = {
@@ -66,7 +73,15 @@ def words_fault(words):
     if len(rest) != len(wanted):
         takes = f"the {len(wanted)} words {' '.join(wanted)}" if wanted else "no further word"
         return f"`{command}` takes {takes}, and got {len(rest)}"
-    return head_fault(rest) if wanted else None
+    return numbers_fault(command, dict(zip(wanted, rest))) if wanted else None
+
+
+def numbers_fault(command, given):
+    """Why the numbers of a command are outside its limits."""
+    fault = head_fault([given[name] for name in HEAD])
+    if command == "make":
+        fault = number_fault("SEED", given["SEED"], 0, 2**64 - 1) or number_fault("COUNT", given["COUNT"], 0, MOST_COUNT) or fault
+    return fault
 
 
 def bytes_fault(digits):

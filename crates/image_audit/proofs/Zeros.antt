@@ -3,7 +3,7 @@ use Rattle.std.proofs.Common.{◌≡◌, ◌≢◌, ℕ, ◌+◌, ◌-◌, ◌<�
 use Rattle.std.proofs.lemmas.List.{take_more}
 use Rattle.std.proofs.lemmas.Bool.{ne_eqb, cases_eq}
 use Rattle.std.specs.Prelude.{if◌then◌else◌, ◌&&◌, ◌==◌}
-use Rattle.image_audit.specs.Held.{is_empty, unless_zeros, without_zeros}
+use Rattle.image_audit.specs.Held.{is_empty, unless_zeros, without_zeros, IsTrimmed}
 
 -- a zero at the end changes nothing
 zero_at_end : (bytes : List ℕ) → without_zeros (bytes ++ 0 ∷ []) ≡ without_zeros bytes
@@ -41,3 +41,20 @@ zeros_end bytes (suc n) within some =
     let at : suc n - 1 ≡ n = omega arith in
     let nonzero : get_or bytes n 0 ≢ 0 = rw at at (some (omega arith)) in
     rw (one, last) (sym (nonzero_at_end (take n bytes) (get_or bytes n 0) nonzero))
+
+-- ---- no zero is left at the end
+last_zero : (byte : ℕ) → IsTrimmed (unless_zeros byte [])
+last_zero byte = elim (cases_eq byte 0) [
+  | inl is ↦ rw (eq-eqb byte 0 is) (λ some zero. absurd (omega arith))
+  | inr not ↦ rw (ne_eqb byte 0 not) (λ some zero. not zero)
+]
+
+trimmed_more : (byte : ℕ) (others : List ℕ) → IsTrimmed others → IsTrimmed (unless_zeros byte others)
+trimmed_more byte [] trimmed = last_zero byte
+trimmed_more byte (other ∷ others) trimmed = λ some zero.
+    let at : length (byte ∷ other ∷ others) - 1 ≡ suc (length (other ∷ others) - 1) = omega arith in
+    trimmed (omega arith) (rw at at zero)
+
+pub trimmed : (bytes : List ℕ) → IsTrimmed (without_zeros bytes)
+trimmed [] = λ some zero. absurd (omega arith)
+trimmed (byte ∷ bytes) = trimmed_more byte (without_zeros bytes) (trimmed bytes)

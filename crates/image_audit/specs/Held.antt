@@ -1,5 +1,5 @@
 -- What the cells of a die hold, as the audit tells it: sectors in the order in which they are first found, without zeros at the end.
-use Rattle.std.specs.Prelude.{◌≡◌, ℕ, ◌-◌, Bool, true, false, not, List, [], ◌∷◌, ◌++◌, map, filter, length, replicate, ◌&&◌, ◌==◌, nat_eq, if◌then◌else◌, unwrap_or, Option, Some, None}
+use Rattle.std.specs.Prelude.{◌≡◌, ℕ, ◌-◌, Bool, true, false, not, List, [], ◌∷◌, ◌++◌, map, filter, length, replicate, ◌&&◌, ◌==◌, nat_eq, if◌then◌else◌, unwrap_or, Option, Some, None, ◌<◌, slice_index}
 use Rattle.std.specs.List.{filter_map, range_with_len}
 use Rattle.std.specs.Map.{lookup}
 use Rattle.zero_count.specs.declared.Header.{Header}
@@ -34,6 +34,10 @@ unless_zeros byte others = if is_empty others && (byte == 0) then [] else byte �
 abbrev pub without_zeros : List ℕ → List ℕ
 without_zeros [] = []
 without_zeros (byte ∷ bytes) = unless_zeros byte (without_zeros bytes)
+
+-- the last byte, where there are any, is not zero
+abbrev pub IsTrimmed : List ℕ → Type 0
+IsTrimmed bytes = 0 < length bytes → slice_index bytes (length bytes - 1) ≡ 0 → ⊥
 
 -- the bytes of a sector, as its live record says them
 abbrev pub bytes_held : Geometry → Decoding → List (List ℕ) → ℕ → List ℕ

@@ -22,7 +22,7 @@ pub mod ImageRuns
 pub mod Top
 pub mod Calm
 pub mod Headline
+pub mod Reuse
 pub mod Workloads
 pub mod MakeRuns
 pub mod Upgrades
-pub mod Reuse

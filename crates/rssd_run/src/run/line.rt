@@ -165,9 +165,9 @@ pub fn play<D: Die + Drop, C: Scheme + Drop, F: Device<D, C>>(
     ensures nothing { IfNone result (F.device ftl.new ≡ F.device ftl.old) }
     ensures plays { IfSome result (λ reply. Plays (F.device ftl.old).numbers line.now reply (F.device ftl.old) (F.device ftl.new)) }
     ensures quiet { IfSome result (λ reply. PlaysQuiet reply (F.device ftl.old) (F.device ftl.new)) }
+    ensures keeps { IfSome result (λ reply. KeepsDie (F.device ftl.old).numbers (F.device ftl.old).view.die (F.device ftl.new).view.die) }
     ensures numbers { (F.device ftl.new).numbers ≡ (F.device ftl.old).numbers }
     ensures kept { Kept (F.device ftl.old).view.die (F.device ftl.new).view.die }
-    ensures keeps { IfSome result (λ reply. KeepsDie (F.device ftl.old).numbers (F.device ftl.old).view.die (F.device ftl.new).view.die) }
 {
     match line {
         Line::Cut { .. } | Line::FailRead { .. } | Line::Mount | Line::Stat => None,

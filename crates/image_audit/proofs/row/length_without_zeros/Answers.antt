@@ -1,6 +1,6 @@
 -- What is passed from the end are zeros, and the byte before them is none.
 use Rattle.std.proofs.Common.{arith, sym, ◌∙◌}
-use Rattle.image_audit.proofs.Zeros.{zeros_step, zeros_end}
+use Rattle.image_audit.proofs.Zeros.{zeros_step, zeros_end, trimmed}
 use Rattle.image_audit.proofs.row.length_without_zeros.Goals as goal
 
 pub loop-count-preserved : goal.loop-count-preserved
@@ -12,3 +12,6 @@ loop-count-preserved c = record {
 pub returns-else-bytes-count-eq0-clause-bytes : goal.returns-else-bytes-count-eq0-clause-bytes
 returns-else-bytes-count-eq0-clause-bytes c =
     zeros_end c.args.bytes.now c.loop-count.count c.loop-count.invariant.within (λ some. c.if-bytes-count-eq0.false) ∙ c.loop-count.invariant.zeros
+
+pub returns-else-bytes-count-eq0-clause-trimmed : goal.returns-else-bytes-count-eq0-clause-trimmed
+returns-else-bytes-count-eq0-clause-trimmed c = trimmed c.args.bytes.now

@@ -39,6 +39,17 @@ returns-else-stopped-clause-quiet g c =
     let new : DeviceValue = g.F.Device.device c.play_line.new.ftl in
     answered_quiet old.numbers old new c.args.line.now c.play_line.result c.play_line.ensures
 
+pub returns-then-stopped-clause-keeps : goal.returns-then-stopped-clause-keeps
+returns-then-stopped-clause-keeps g c =
+    let old : DeviceValue = g.F.Device.device c.args.ftl.now in
+    keeps_none old.numbers old.view.die
+
+pub returns-else-stopped-clause-keeps : goal.returns-else-stopped-clause-keeps
+returns-else-stopped-clause-keeps g c =
+    let old : DeviceValue = g.F.Device.device c.args.ftl.now in
+    let new : DeviceValue = g.F.Device.device c.play_line.new.ftl in
+    answered_keeps old.numbers old new c.args.line.now c.play_line.result c.play_line.ensures
+
 pub returns-else-stopped-clause-numbers : goal.returns-else-stopped-clause-numbers
 returns-else-stopped-clause-numbers g c =
     let old : DeviceValue = g.F.Device.device c.args.ftl.now in
@@ -50,14 +61,3 @@ returns-else-stopped-clause-kept g c =
     let old : DeviceValue = g.F.Device.device c.args.ftl.now in
     let new : DeviceValue = g.F.Device.device c.play_line.new.ftl in
     (answered_built old.numbers old new c.args.line.now c.play_line.result c.play_line.ensures).kept
-
-pub returns-then-stopped-clause-keeps : goal.returns-then-stopped-clause-keeps
-returns-then-stopped-clause-keeps g c =
-    let old : DeviceValue = g.F.Device.device c.args.ftl.now in
-    keeps_none old.numbers old.view.die
-
-pub returns-else-stopped-clause-keeps : goal.returns-else-stopped-clause-keeps
-returns-else-stopped-clause-keeps g c =
-    let old : DeviceValue = g.F.Device.device c.args.ftl.now in
-    let new : DeviceValue = g.F.Device.device c.play_line.new.ftl in
-    answered_keeps old.numbers old new c.args.line.now c.play_line.result c.play_line.ensures
