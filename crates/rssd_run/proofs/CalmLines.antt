@@ -54,7 +54,7 @@ pub record IsCalmStep (d : Numbers) (new : SessionValue) (before : View) (line :
 module _ (d : Numbers) (line : Line) (reply : Reply) (old new : SessionValue) where
   pub calm_step : (before : View) → IsCalmAt d old before → IsPlain line → HasNumbers d new.holding → StepsSession d line reply old new → IsCalmStep d new before line reply
   calm_step before calm plain numbers steps =
-      let so = steps before calm.shows (inl calm.sound) in
+      let so = steps.step before calm.shows (inl calm.sound) in
       let e : Event = record { line = line; reply = reply; before = before; after = so.0 } in
       let unarmed : IsUnarmed d before = record { cut = calm.no_cut; read = calm.no_read_failure; free = calm.sound.one_free } in
       let never : NeverFails e = step_fails d e so.2 unarmed in
