@@ -6,6 +6,8 @@ use super::*;
 use crate::header_cells::lies_below_valid;
 use die_image::{ImageHead, SchemeName, within_limits};
 use rivest_shamir::RivestShamir;
+use std::alloc::Global;
+use std::process::Abort;
 use std::test::Fail;
 use striped::Striped;
 
@@ -35,7 +37,8 @@ fn one_sector() -> [u8; 224] {
 /// What an audit says of the cells of a die of two blocks, with so many pages of a block and sectors.
 #[tactic(auto, unfolding(die_image::specs::Image::die_bytes, die_image::specs::Schemes::row_of))]
 fn audit_of(
-    rt: &HostRuntime,
+    rt: &impl Abort,
+    alloc: Global,
     pages: u32,
     sectors: u32,
     cells: &[u8],
@@ -52,17 +55,17 @@ fn audit_of(
     assert!(rt; within_limits(&head));
     assert_eq!(rt; cells.len(), 112 * pages as usize);
     let scheme = Striped::<RivestShamir, RivestShamir, 2, 3, 3>::new(
-        rt.alloc(),
+        alloc,
         RivestShamir::new(),
         RivestShamir::new(),
         16,
     )?;
-    Ok(audit(rt.alloc(), &head, cells, &scheme)?)
+    Ok(audit(alloc, &head, cells, &scheme)?)
 }
 
 #[test]
 fn a_blank_die_is_sound_and_holds_nothing(rt: HostRuntime) -> Result<(), Fail> {
-    let (verdict, held) = audit_of(&rt, 2, 1, &[0; 224])?;
+    let (verdict, held) = audit_of(&rt, rt.alloc(), 2, 1, &[0; 224])?;
     assert_eq!(rt; verdict, Verdict::Sound);
     assert_eq!(rt; held.len(), 0);
     Ok(())
@@ -70,7 +73,7 @@ fn a_blank_die_is_sound_and_holds_nothing(rt: HostRuntime) -> Result<(), Fail> {
 
 #[test]
 fn a_written_sector_is_told_without_its_zeros(rt: HostRuntime) -> Result<(), Fail> {
-    let (verdict, held) = audit_of(&rt, 2, 1, &one_sector())?;
+    let (verdict, held) = audit_of(&rt, rt.alloc(), 2, 1, &one_sector())?;
     assert_eq!(rt; verdict, Verdict::Sound);
     assert_eq!(rt; held.len(), 1);
     assert_eq!(rt; held[0].sector, 0);
@@ -82,7 +85,7 @@ fn a_written_sector_is_told_without_its_zeros(rt: HostRuntime) -> Result<(), Fai
 fn a_header_without_its_gate_is_sound_and_holds_nothing(rt: HostRuntime) -> Result<(), Fail> {
     let mut cells = one_sector();
     put(&mut cells, 24, &[0]);
-    let (verdict, held) = audit_of(&rt, 2, 1, &cells)?;
+    let (verdict, held) = audit_of(&rt, rt.alloc(), 2, 1, &cells)?;
     assert_eq!(rt; verdict, Verdict::Sound);
     assert_eq!(rt; held.len(), 0);
     Ok(())
@@ -94,7 +97,7 @@ fn a_last_byte_that_is_too_great_is_the_first_fault(rt: HostRuntime) -> Result<(
     put(&mut cells, 38, &[0x67]);
     put(&mut cells, 80, &FIRST);
     put(&mut cells, 94, &[0x67]);
-    let (verdict, held) = audit_of(&rt, 2, 1, &cells)?;
+    let (verdict, held) = audit_of(&rt, rt.alloc(), 2, 1, &cells)?;
     assert_eq!(rt; verdict, Verdict::Header { page: 0, slot: 0 });
     assert_eq!(rt; held.len(), 0);
     Ok(())
@@ -105,7 +108,7 @@ fn a_seq_that_stands_twice_is_told_with_both_slots(rt: HostRuntime) -> Result<()
     let mut cells = one_sector();
     put(&mut cells, 80, &[1]);
     put(&mut cells, 81, &FIRST);
-    let (verdict, held) = audit_of(&rt, 2, 1, &cells)?;
+    let (verdict, held) = audit_of(&rt, rt.alloc(), 2, 1, &cells)?;
     let wanted = Verdict::SameSeq {
         page: 0,
         slot: 0,
@@ -124,7 +127,7 @@ fn a_live_record_in_every_block_leaves_no_spare(rt: HostRuntime) -> Result<(), F
     put(&mut cells, 25, &FIRST);
     put(&mut cells, 248, &[1]);
     put(&mut cells, 249, &SECOND);
-    let (verdict, held) = audit_of(&rt, 4, 2, &cells)?;
+    let (verdict, held) = audit_of(&rt, rt.alloc(), 4, 2, &cells)?;
     assert_eq!(rt; verdict, Verdict::NoSpare);
     assert_eq!(rt; held.len(), 0);
     Ok(())
@@ -134,7 +137,7 @@ fn a_live_record_in_every_block_leaves_no_spare(rt: HostRuntime) -> Result<(), F
 fn a_seq_past_the_bound_is_told(rt: HostRuntime) -> Result<(), Fail> {
     let mut cells = one_sector();
     put(&mut cells, 81, &HIGH);
-    let (verdict, held) = audit_of(&rt, 2, 1, &cells)?;
+    let (verdict, held) = audit_of(&rt, rt.alloc(), 2, 1, &cells)?;
     assert_eq!(rt; verdict, Verdict::Number { page: 1, slot: 0 });
     assert_eq!(rt; held.len(), 0);
     Ok(())
