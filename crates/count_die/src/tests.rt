@@ -1,6 +1,7 @@
 use super::*;
 use cell_die::{Die, DieFault, PowerDie, Shape, Torn};
 use mem_die::MemDie;
+use std::process::Abort;
 use std::test::Fail;
 
 const SHAPE: Shape = Shape {
@@ -10,20 +11,46 @@ const SHAPE: Shape = Shape {
     spare_bytes: 1,
 };
 
+/// Reads a page of a die of that shape.
+fn read_page(rt: &impl Abort, die: &mut CountDie<MemDie>, page: u32) -> Result<(), DieFault> {
+    assert_eq!(rt; die.shape(), SHAPE);
+    assert!(rt; page < 4);
+    die.read(page, &mut [0; 2])
+}
+
+/// Charges a cell of a die of that shape.
+fn charge_cell(
+    rt: &impl Abort,
+    die: &mut CountDie<MemDie>,
+    page: u32,
+    cell: u32,
+) -> Result<(), DieFault> {
+    assert_eq!(rt; die.shape(), SHAPE);
+    assert!(rt; page < 4);
+    assert!(rt; cell < 16);
+    die.charge(page, cell)
+}
+
+/// The programs, and the programs and charges, of a page since its block's last erase.
+fn since(rt: &impl Abort, tally: &Tally, page: u32) -> (u64, u64) {
+    assert!(rt; u64::from(page) < u64::from(tally.blocks()) * u64::from(tally.pages()));
+    (tally.programs_since(page), tally.changes_since(page))
+}
+
 #[test]
 fn each_call_is_counted_for_its_block_and_page(rt: HostRuntime) -> Result<(), Fail> {
     let inner = MemDie::blank(rt.alloc(), SHAPE)?;
     let mut die = CountDie::new(rt.alloc(), inner).ok().ok_or("no memory")?;
-    let mut page = [0; 2];
-    assert_eq!(rt; die.read(3, &mut page), Ok(()));
-    assert_eq!(rt; die.charge(2, 9), Ok(()));
-    assert_eq!(rt; die.charge(2, 3), Ok(()));
+    assert_eq!(rt; read_page(&rt, &mut die, 3), Ok(()));
+    assert_eq!(rt; charge_cell(&rt, &mut die, 2, 9), Ok(()));
+    assert_eq!(rt; charge_cell(&rt, &mut die, 2, 3), Ok(()));
     let tally = die.tally();
     assert_eq!(rt; (tally.blocks(), tally.pages()), (2, 2));
     assert_eq!(rt; (tally.reads(0), tally.reads(1)), (0, 1));
     assert_eq!(rt; (tally.charges(0), tally.charges(1)), (0, 2));
-    assert_eq!(rt; (tally.programs_since(2), tally.changes_since(2)), (0, 2));
-    assert_eq!(rt; (tally.changes_since(3), tally.most_changes(1)), (0, 2));
+    assert_eq!(rt; since(&rt, tally, 2), (0, 2));
+    assert_eq!(rt; since(&rt, tally, 3), (0, 0));
+    assert_eq!(rt; tally.most_changes(1), 2);
     Ok(())
 }
 
@@ -36,7 +63,8 @@ fn an_erase_begins_the_pages_anew_and_keeps_the_most(rt: HostRuntime) -> Result<
     let (inner, tally) = die.into_parts();
     assert_eq!(rt; inner.erased(), 1);
     assert_eq!(rt; (tally.blocks(), tally.pages()), (2, 2));
-    assert_eq!(rt; (tally.programs_since(2), tally.programs(1)), (0, 1));
+    assert_eq!(rt; since(&rt, &tally, 2), (0, 0));
+    assert_eq!(rt; tally.programs(1), 1);
     assert_eq!(rt; (tally.most_programs(1), tally.most_changes(1)), (1, 1));
     assert_eq!(rt; (tally.erases(0), tally.erases(1)), (0, 1));
     let totals = Totals {
@@ -58,8 +86,7 @@ fn a_call_that_fails_is_counted(rt: HostRuntime) -> Result<(), Fail> {
     assert!(rt; !die.powered());
     die.power_on();
     die.fail_read(1);
-    let mut page = [0; 2];
-    assert_eq!(rt; die.read(0, &mut page), Err(DieFault));
+    assert_eq!(rt; read_page(&rt, &mut die, 0), Err(DieFault));
     assert_eq!(rt; die.erased(), 0);
     let tally = die.tally();
     assert_eq!(rt; (tally.blocks(), tally.pages()), (2, 2));
