@@ -1,7 +1,5 @@
 //! Rows of the queue, worked by hand.
 
-mod served;
-
 use crate::{Ask, AskBytes, PutRefusal, Queue, Tagged, laws};
 use std::process::Abort;
 use std::test::Fail;
