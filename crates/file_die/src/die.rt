@@ -48,17 +48,23 @@ impl<M: Mirror> FileDie<M> {
     }
 
     /// How many puts failed; it stands still at 2^64 - 1.
-    pub fn put_faults(&self) -> u64 {
+    pub fn put_faults(&self) -> u64
+        ensures { result ≡ self.now.faults }
+    {
         self.faults
     }
 
     /// Whether a put failed that was not made good yet.
-    pub fn is_behind(&self) -> bool {
+    pub fn is_behind(&self) -> bool
+        ensures { result ≡ self.now.behind }
+    {
         self.behind
     }
 
     /// The mirror.
-    pub fn mirror(&self) -> &M {
+    pub fn mirror(&self) -> &M
+        ensures { result.now ≡ self.now.mirror }
+    {
         &self.mirror
     }
 
