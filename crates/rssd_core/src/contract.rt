@@ -47,6 +47,10 @@ impl<D: Die + Drop, C: Scheme + Drop> Device<D, C> for Ftl<D, C> {
         Ftl::sector_bytes(self)
     }
 
+    fn die(&self) -> &D {
+        Ftl::die(self)
+    }
+
     fn close(self) -> (D, C) {
         Ftl::close(self)
     }

@@ -157,6 +157,10 @@ pub trait Device<D: Die + Drop, C: Scheme + Drop>: Drop {
     fn sector_bytes(&self) -> u32
         ensures { result ≡ (device self.now).numbers.geometry.sector_bytes };
 
+    /// The die as it stands.
+    fn die(&self) -> &D
+        ensures { D.state result.now ≡ (device self.now).view.die };
+
     /// Gives the die and the scheme back.
     fn close(self) -> (D, C)
         ensures die { D.state result.0 ≡ (device self).view.die }

@@ -115,6 +115,13 @@ impl<D: Die + Drop, C: Scheme + Drop> Ftl<D, C> {
         self.scheme.sector_bytes()
     }
 
+    /// The die as it stands.
+    pub fn die(&self) -> &D
+        ensures { D.state result.now ≡ (device_of D.state C.meaning self.now).view.die }
+    {
+        &self.die
+    }
+
     /// Gives the die and the scheme back.
     pub fn close(self) -> (D, C)
         ensures die { D.state result.0 ≡ (device_of D.state C.meaning self).view.die }

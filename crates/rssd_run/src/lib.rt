@@ -9,6 +9,3 @@ mod status;
 
 pub use program::main_of;
 pub use run::top::rssd;
-
-#[cfg(test)]
-mod tests;

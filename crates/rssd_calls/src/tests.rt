@@ -1,7 +1,7 @@
 //! The top call on sources and sinks in memory.
 
-use super::*;
 use rssd_io::{MemSink, MemSource};
+use rssd_run::rssd;
 use std::alloc::Global;
 use std::process::Abort;
 use std::test::Fail;
