@@ -9,11 +9,11 @@ ghost use Rattle.rssd_core.specs.Failures.{Tells};
 ghost use Rattle.rssd_core.specs.Mount.{numbers_of, Fits, Mounts, Refuses};
 ghost use Rattle.rssd_core.specs.SectorArray.{filled_up};
 ghost use Rattle.rssd_run.specs.Armed.{form_of_word};
-ghost use Rattle.rssd_run.specs.Exchanges.{AnsweredOn};
+ghost use Rattle.rssd_run.specs.Exchanges.{AnsweredBy, AnsweredOn};
 ghost use Rattle.rssd_run.specs.Held.{reply_of};
 ghost use Rattle.rssd_run.specs.Step.{KeepsDie};
 ghost use Rattle.rssd_run.specs.Played.{IsPlayed, Answered, AnsweredWrite, AnsweredRead, AnsweredTrim, AnsweredIdle, Plays, PlaysQuiet};
-ghost use Rattle.rssd_run.specs.Shows.{CanStep, IsDeviceLine};
+ghost use Rattle.rssd_run.specs.Shows.{CanStep, IsDeviceLine, Mounted};
 ghost use Rattle.rssd_run.specs.Steps.{IsKept, Steps, MountDone, MountRefused, refusal_reply as replied};
 
 use crate::row::bytes_reply;
@@ -167,6 +167,7 @@ pub fn play<D: Die + Drop, C: Scheme + Drop, F: Device<D, C>>(
     ensures none { result ≡ None ↔ (¬ IsPlayed line.now) }
     ensures nothing { IfNone result (F.device ftl.new ≡ F.device ftl.old) }
     ensures plays { IfSome result (λ reply. Plays (F.device ftl.old).numbers line.now reply (F.device ftl.old) (F.device ftl.new)) }
+    ensures answers { IfSome result (λ reply. AnsweredBy (F.device ftl.old).numbers line.now reply (Mounted (F.device ftl.old)) (Mounted (F.device ftl.new))) }
     ensures quiet { IfSome result (λ reply. PlaysQuiet reply (F.device ftl.old) (F.device ftl.new)) }
     ensures keeps { IfSome result (λ reply. KeepsDie (F.device ftl.old).numbers (F.device ftl.old).view.die (F.device ftl.new).view.die) }
     ensures numbers { (F.device ftl.new).numbers ≡ (F.device ftl.old).numbers }
