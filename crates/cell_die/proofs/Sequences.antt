@@ -4,6 +4,8 @@ use Rattle.cell_bits.proofs.Above.{above_refl, above_trans}
 use Rattle.cell_die.specs.Counts.{Stayed}
 use Rattle.cell_die.specs.DieState.{DieState, Failures, page_of, block_of, erases_of}
 use Rattle.cell_die.specs.Changes.{NeverFalls}
+use Rattle.cell_die.specs.Changed.{IsChanged}
+use Rattle.cell_die.proofs.Changed.{changed_none, changed_trans, told_any, told_trans, told_cut}
 use Rattle.cell_die.specs.Calls.{Kept, WhilePowered, Nearer, NearerWithin, CutCame, ReadFailureCame, Passed, PassedWithin, ChangeFailed, ReadFailed}
 
 pub never_falls_refl : (die : DieState) → NeverFalls die die
@@ -81,6 +83,7 @@ passed_trans {old} {mid} {new} {c} {r} {d} {s} first second = record {
   read_faults = second.read_faults ∙ first.read_faults;
   change_faults = second.change_faults ∙ first.change_faults;
   failures = WhilePowered-trans (Nearer c r) (Nearer d s) (Nearer (c + d) (r + s)) (λ a b near. near.powered) (Nearer-trans c r d s) old.failures mid.failures new.failures first.failures second.failures;
+  changed = told_trans (IsChanged c old mid) (IsChanged d mid new) (IsChanged (c + d) old new) (Nearer c r) (λ a b near. near.powered) (changed_trans c d old mid new) old.failures mid.failures new.failures first.failures first.changed second.changed;
 }
 
 -- calls that passed, and then some of which the last, a change call, failed
@@ -89,6 +92,8 @@ change_failed_after {old} {mid} {new} {c} {r} {d} {s} first second = record {
   read_faults = second.read_faults ∙ first.read_faults;
   change_faults = rw first.change_faults at second.change_faults;
   failures = WhilePowered-trans (Nearer c r) (CutCame d s) (CutCame (c + d) (r + s)) (λ a b near. near.powered) (CutCame-after c r d s) old.failures mid.failures new.failures first.failures second.failures;
+  cut = told_cut c (Nearer c r) (CutCame d s) old mid new (λ a b near. near.powered) (λ x y z near came. (near.cut, came.armed, near.form came.armed))
+      old.failures mid.failures new.failures first.failures first.changed second.failures second.cut;
 }
 
 -- calls that passed, and then some of which the last, a read, failed
@@ -117,6 +122,7 @@ change_failed_within {old} {new} {c} {r} changes reads fewer_changes fewer_reads
     no_later = came.no_later;
     read_failure_to_come = came.read_failure_to_come;
   }) old.failures new.failures failed.failures;
+  cut = failed.cut;
 }
 
 pub read_failed_within : {old new : DieState} {c r : ℕ} (changes reads : ℕ) → c ≤ changes → r ≤ reads → ReadFailed c r old new → ReadFailed changes reads old new
@@ -137,7 +143,12 @@ read_failed_within {old} {new} {c} {r} changes reads fewer_changes fewer_reads f
 
 -- no call
 pub passed_none : (die : DieState) → Passed 0 0 die die
-passed_none die = record { read_faults = refl; change_faults = refl; failures = same die.failures } where
+passed_none die = record {
+  read_faults = refl;
+  change_faults = refl;
+  failures = same die.failures;
+  changed = told_any (Nearer 0 0) (λ before now. IsChanged 0 die die) (λ a b. changed_none die die refl (record { cells = refl; erases = refl })) die.failures die.failures (same die.failures);
+} where
   same : (x : Option Failures) → WhilePowered x x (Nearer 0 0)
   same None = tt
   same (Some a) = λ powered. record {
@@ -163,4 +174,5 @@ passed_within {old} {new} {changes} {r} reads fewer passed = record {
     read_failure_to_come = λ armed. omega (arith, near.read_failure_to_come armed);
     form = near.form;
   }) old.failures new.failures passed.failures;
+  changed = passed.changed;
 }

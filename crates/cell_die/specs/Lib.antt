@@ -2,6 +2,8 @@ pub mod Cells
 pub mod Counts
 pub mod DieState
 pub mod Changes
+pub mod Tears
+pub mod Changed
 pub mod Calls
 pub mod Power
 pub mod Pads

@@ -1,4 +1,5 @@
 -- A row of bytes as pages of one length.
+pub use Rattle.cell_die.specs.Tears.{Blended}
 use Rattle.std.specs.Prelude.{◌≡◌, ◌≢◌, ℕ, ◌%◌, List, length, map, ◌==◌, if◌then◌else◌}
 use Rattle.std.specs.Int.{bit_at}
 use Rattle.std.specs.List.{range_with_len}
@@ -13,8 +14,3 @@ pub record ChangesPage (size page : ℕ) (old new content : List ℕ) : Type 0 w
   pub same_length : length new ≡ length old
   pub here : slice_chunk new size page ≡ content
   pub others : (other : ℕ) → other ≢ page → slice_chunk new size other ≡ slice_chunk old size other
-
--- the page is old, with the cells of target where the mask has the bit of the cell's number, modulo 64
-pub record Blended (mask : ℕ) (old target new : List ℕ) : Type 0 where
-  pub same_length : length new ≡ length old
-  pub cells : (cell : ℕ) → charge_at new cell ≡ (if bit_at mask (cell % 64) == 1 then charge_at target cell else charge_at old cell)

@@ -5,6 +5,9 @@ use Rattle.cell_die.specs.Changes.{NeverFalls, OnlyBlock}
 use Rattle.cell_die.proofs.Single.{block_rose_never_falls}
 use Rattle.mem_die.specs.MemState.{mem_state, mem_shaped}
 use Rattle.mem_die.proofs.States.{torn_erase_below, in_block}
+use Rattle.std.proofs.Common.{refl}
+use Rattle.cell_die.proofs.Changed.{erased_once}
+use Rattle.mem_die.proofs.ChangeCalls.{whole_call, cut_call, first_cut, torn_counted, untouched}
 use Rattle.mem_die.proofs.mem.MemDieDie.erase.Goals as goal
 
 pub returns-in-Cut-clause-in_part : goal.returns-in-Cut-clause-in_part
@@ -29,3 +32,28 @@ returns-in-Cut-clause-kept c =
     (let only : OnlyBlock c.args.block (mem_state c.args.self.now) (mem_state c.tear_block-in-Cut.new.self) = record { pages = c.tear_block-in-Cut.ensures.only_block.pages; counts = c.tear_block-in-Cut.ensures.only_block.counts } in only)
     (omega (arith, c.tear_block-in-Cut.ensures.count)) c.tear_block-in-Cut.ensures.no_lower in
     search rules
+
+pub returns-in-Whole-clause-passed : goal.returns-in-Whole-clause-passed
+returns-in-Whole-clause-passed c =
+    whole_call c.args.self.now c.tear_block.new.self c.begin_change.new.self c.tear_block.ensures.supply c.in-Whole.ensures
+    (erased_once c.args.block (mem_state c.args.self.now) (mem_state c.tear_block.new.self) (record { blank = c.tear_block.ensures.pages; count = c.tear_block.ensures.count }) (record { pages = c.tear_block.ensures.only_block.pages; counts = c.tear_block.ensures.only_block.counts }) c.tear_block.ensures.shape)
+
+pub returns-in-Cut-clause-failed : goal.returns-in-Cut-clause-failed
+returns-in-Cut-clause-failed c =
+    cut_call c.args.self.now c.tear_block-in-Cut.new.self c.begin_change.new.self c.in-Cut.torn c.tear_block-in-Cut.ensures.supply c.in-Cut.ensures
+    (inr (c.args.block, record {
+      cells = c.tear_block-in-Cut.ensures.pages;
+      count = torn_counted c.in-Cut.torn _ _ (search rules) c.tear_block-in-Cut.ensures.count;
+      only = record { pages = c.tear_block-in-Cut.ensures.only_block.pages; counts = c.tear_block-in-Cut.ensures.only_block.counts };
+    }))
+
+pub returns-in-Cut-Nothing-clause-failed : goal.returns-in-Cut-Nothing-clause-failed
+returns-in-Cut-Nothing-clause-failed c =
+    let cuts = c.in-Cut-Nothing.ensures in
+    record {
+      read_faults = cuts.read_faults;
+      change_faults = omega (arith, cuts.change_faults);
+      failures = λ powered. cuts.came;
+      cut = λ powered. first_cut c.args.self.now.supply.cut _ _ (mem_state c.args.self.now) _ cuts.came.within cuts.form
+          (untouched _ c.args.block (mem_state c.args.self.now) _ (search rules) refl (record { cells = refl; erases = refl }));
+    }
