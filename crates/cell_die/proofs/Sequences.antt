@@ -1,5 +1,5 @@
 -- One run of die calls after another.
-use Rattle.std.proofs.Common.{◌≡◌, ℕ, ◌+◌, ◌≤◌, true, Option, None, Some, refl, arith, ◌∙◌}
+use Rattle.std.proofs.Common.{◌≡◌, ℕ, ◌+◌, ◌≤◌, true, Option, None, Some, Result, Ok, Err, OnOk, OnErr, refl, arith, ◌∙◌}
 use Rattle.cell_bits.proofs.Above.{above_refl, above_trans}
 use Rattle.cell_die.specs.Counts.{Stayed}
 use Rattle.cell_die.specs.DieState.{DieState, Failures, page_of, block_of, erases_of}
@@ -176,3 +176,12 @@ passed_within {old} {new} {changes} {r} reads fewer passed = record {
   }) old.failures new.failures passed.failures;
   changed = passed.changed;
 }
+
+-- the same of calls whose result is to be seen
+pub ok_then : {T E : Type 0} {c r : ℕ} (d s : ℕ) (old mid new : DieState) (result : Result T E) → Passed c r old mid → OnOk result (Passed d s mid new) → OnOk result (Passed (c + d) (r + s) old new)
+ok_then {T} {E} {c} {r} d s old mid new (Ok value) first second = passed_trans first second
+ok_then {T} {E} {c} {r} d s old mid new (Err error) first second = tt
+
+pub err_then : {T E : Type 0} {c r : ℕ} (d s : ℕ) (old mid new : DieState) (result : Result T E) → Passed c r old mid → OnErr result (ChangeFailed d s mid new) → OnErr result (ChangeFailed (c + d) (r + s) old new)
+err_then {T} {E} {c} {r} d s old mid new (Ok value) first second = tt
+err_then {T} {E} {c} {r} d s old mid new (Err error) first second = change_failed_after first second

@@ -6,6 +6,8 @@ use Rattle.std.proofs.lemmas.List.{get_or_past}
 use Rattle.cell_die.specs.declared.shape.Shape.{Shape}
 use Rattle.cell_die.specs.Counts.{Stayed}
 use Rattle.cell_die.specs.DieState.{DieState, Failures}
+use Rattle.cell_die.specs.Changed.{IsChanged}
+use Rattle.cell_die.proofs.Changed.{changed_trans, told_trans}
 use Rattle.cell_die.specs.Calls.{WhilePowered, Nearer, NearerWithin, Passed, PassedWithin, ChangeFailed}
 use Rattle.cell_die.proofs.Sequences.{kept_trans, change_failed_after, change_failed_within, read_failed_after, read_failed_within}
 use Rattle.striped.specs.Meaning.{Meaning, Decoding}
@@ -82,6 +84,7 @@ within_after c d s old mid new first second = record {
   read_faults = second.read_faults ∙ first.read_faults;
   change_faults = second.change_faults ∙ first.change_faults;
   failures = while_after c d s old.failures mid.failures new.failures first.failures second.failures;
+  changed = told_trans (IsChanged c old mid) (IsChanged d mid new) (IsChanged (c + d) old new) (Nearer c 0) (λ a b near. near.powered) (changed_trans c d old mid new) old.failures mid.failures new.failures first.failures first.changed second.changed;
 }
 
 -- ---- before the copies

@@ -14,5 +14,6 @@ pub mod PutStored
 pub mod PutPads
 pub mod PutTwo
 pub mod PutUnit
+pub mod PutOver
 pub mod PutPair
 pub mod PutPromises

@@ -6,7 +6,9 @@ use Rattle.std.proofs.lemmas.List.Sums.{sum_by-append}
 use Rattle.cell_die.specs.DieState.{DieState, Failures}
 use Rattle.cell_die.specs.Calls.{Kept, Passed, PassedWithin, ChangeFailed, ReadFailed, Nearer, NearerWithin, WhilePowered}
 use Rattle.cell_die.specs.Calls as cell
+use Rattle.cell_die.specs.Changed.{IsChanged}
 use Rattle.cell_die.specs.Counts.{Rose, Stayed}
+use Rattle.cell_die.proofs.Changed.{changed_trans, told_cut, told_trans}
 use Rattle.cell_die.proofs.Sequences.{kept_trans, passed_trans, passed_within}
 use Rattle.block_state.specs.Book.{BookValue}
 use Rattle.page_codec.specs.Geometry.{Geometry}
@@ -64,6 +66,7 @@ within_trans c r d s old mid new first then = record {
   read_faults = then.read_faults ∙ first.read_faults;
   change_faults = then.change_faults ∙ first.change_faults;
   failures = while_within c r d s old.failures mid.failures new.failures first.failures then.failures;
+  changed = told_trans (IsChanged c old mid) (IsChanged d mid new) (IsChanged (c + d) old new) (NearerWithin c r) (λ a b near. near.powered) (changed_trans c d old mid new) old.failures mid.failures new.failures first.failures first.changed then.changed;
 }
 
 pub went_trans : (c r d s : ℕ) (Bounded : Type 0) (old mid new : DieState) → Went c r Bounded old mid → Passed d s mid new → Went (c + d) (r + s) Bounded old new
@@ -96,6 +99,8 @@ change_failed_then c r d s old mid new first then = record {
   read_faults = then.read_faults ∙ first.read_faults;
   change_faults = subst (λ (n : ℕ). Rose n new.change_faults) first.change_faults then.change_faults;
   failures = while_cut c r d s old.failures mid.failures new.failures first.failures then.failures;
+  cut = told_cut c (NearerWithin c r) (cell.CutCame d s) old mid new (λ a b near. near.powered) (λ x y z near came. (near.cut, came.armed, near.form came.armed))
+      old.failures mid.failures new.failures first.failures first.changed then.failures then.cut;
 }
 
 -- a cut that came after so many calls was to come after them

@@ -4,7 +4,7 @@ use Rattle.cell_die.specs.declared.shape.Shape.{Shape}
 use Rattle.cell_die.specs.Cells.{IsAbove}
 use Rattle.cell_die.specs.DieState.{page_of}
 use Rattle.cell_die.specs.Changes.{IsBetween}
-use Rattle.cell_die.proofs.Sequences.{kept_trans}
+use Rattle.cell_die.proofs.Sequences.{kept_trans, ok_then, err_then}
 use Rattle.page_codec.specs.Units.{place_of}
 use Rattle.page_codec.proofs.PutFirst.{reaches_any, on_ok}
 use Rattle.page_codec.proofs.PutUnit.{IsMid, with_main, further_above, pair_puts, pair_gated, pair_torn}
@@ -70,3 +70,9 @@ returns-clause-gated g c =
 
 pub returns-clause-kept : goal.returns-clause-kept
 returns-clause-kept g c = kept_trans c.program.ensures.kept c.put_page.ensures.kept
+
+pub returns-clause-passed : goal.returns-clause-passed
+returns-clause-passed g c = ok_then 2 0 _ _ _ c.put_page.result c.in_ok-program.ensures.passed c.put_page.ensures.passed
+
+pub returns-clause-failed : goal.returns-clause-failed
+returns-clause-failed g c = err_then 2 0 _ _ _ c.put_page.result c.in_ok-program.ensures.passed c.put_page.ensures.failed

@@ -6,6 +6,7 @@ use Rattle.cell_die.specs.DieState.{page_of, page_bytes}
 use Rattle.cell_die.proofs.CellLaws.{above_blank}
 use Rattle.spare_die.specs.Table.{entry_page, is_gated}
 use Rattle.spare_die.proofs.Entries.{between_ungated, entry_is, length-entry, entry_ungated}
+use Rattle.cell_die.proofs.Sequences.{ok_then, err_then}
 use Rattle.spare_die.proofs.spare.put_entry.Goals as goal
 
 on_err : {T E P : Type 0} (result : Result T E) → P → OnErr result P
@@ -45,3 +46,9 @@ returns-clause-put_or_not g c =
     (omega (arith, c.requires.logical)) (omega (arith, c.requires.inner))
     (charged ∙ ap (λ row. charge row 64) (c.in_ok-program.ensures.programmed ∙ (c.spell.ensures ∙ ap (entry_page c.args.entry.logical c.args.entry.inner) c.requires.whole_page)))))
     either) c.charge.ensures.charged_or_not
+
+pub returns-clause-passed : goal.returns-clause-passed
+returns-clause-passed g c = ok_then 1 0 _ _ _ c.charge.result c.in_ok-program.ensures.passed c.charge.ensures.passed
+
+pub returns-clause-failed : goal.returns-clause-failed
+returns-clause-failed g c = err_then 1 0 _ _ _ c.charge.result c.in_ok-program.ensures.passed c.charge.ensures.failed

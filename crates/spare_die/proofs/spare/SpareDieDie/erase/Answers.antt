@@ -1,7 +1,8 @@
 -- The home of the block is erased, and where that went bad the block is moved to a blank reserve block.
-use Rattle.std.proofs.Common.{inr, Result, Ok, Err, OnErr, ap, ◌∙◌, ⊎_elim}
+use Rattle.std.proofs.Common.{inl, inr, subst, sym, ℕ, Result, Ok, Err, OnErr, ap, ◌∙◌, ⊎_elim}
 use Rattle.std.proofs.lemmas.Result.{on_ok_weaker, on_err_weaker}
-use Rattle.cell_die.proofs.Sequences.{kept_trans}
+use Rattle.cell_die.specs.Counts.{Rose}
+use Rattle.cell_die.proofs.Sequences.{kept_trans, change_failed_after}
 use Rattle.spare_die.specs.Table.{home}
 use Rattle.spare_die.specs.Tallies.{own_of}
 use Rattle.spare_die.proofs.Erases.{only_block_spare, is_erased_spare, in_part_spare, kept_erase}
@@ -166,3 +167,9 @@ returns-in-Bad-clause-kept g c =
 
 pub returns-in-Bad-clause-counted : goal.returns-in-Bad-clause-counted
 returns-in-Bad-clause-counted g c = λ running. counts_replaced c.erase_home.ensures.counts c.replace.ensures.same_counts
+
+pub returns-in-Bad-clause-cause : goal.returns-in-Bad-clause-cause
+returns-in-Bad-clause-cause g c =
+    let home = c.in_ok-erase_home in
+    let rose = subst (λ (n : ℕ). Rose (g.D.WornDie.bad_erases c.args.self.now.inner) n) (sym c.replace.ensures.same_bad) (home.ensures.bad_rose (home.is ∙ ap Ok c.in-Bad.is)) in
+    on_err_weaker (λ failed. ⊎_elim (λ call. inr (inl (change_failed_after home.ensures.passed call.0))) (λ used. inr (inr (rose, used.2))) failed) c.replace.ensures.failed

@@ -2,6 +2,10 @@
 use Rattle.std.proofs.Common.{sym}
 use Rattle.std.proofs.lemmas.Result.{on_ok_weaker, on_err_weaker}
 use Rattle.cell_die.specs.Changes.{IsErased}
+use Rattle.cell_die.specs.Changes.{IsErased}
+use Rattle.cell_die.proofs.Changed.{erased_once}
+use Rattle.stripe_die.specs.Pair.{pair_state}
+use Rattle.stripe_die.proofs.PairCalls.{first_ok, second_ok}
 use Rattle.stripe_die.proofs.Halves.{Halves, Steps, steps_first, steps_second, kept_pair, first_block_inside, second_block_inside, serves_first, serves_second, only_block_at_first, only_block_at_second, only_block_pair, is_erased_pair, in_part_first, in_part_second}
 use Rattle.stripe_die.proofs.stripe.StripeDieDie.erase.Goals as goal
 
@@ -110,3 +114,15 @@ returns-in-Second-clause-kept g c =
     let steps : Steps (g.A.Die.state c.args.self.now.a) (g.B.Die.state c.args.self.now.b) (g.A.Die.state c.args.self.now.a) (g.B.Die.state c.erase-in-Second.new.self)
     = steps_second halves (g.met.B.Die.shaped c.erase-in-Second.new.self) c.erase-in-Second.ensures.kept in
     kept_pair steps
+
+pub returns-in-First-clause-passed : goal.returns-in-First-clause-passed
+returns-in-First-clause-passed g c =
+    first_ok c.erase.result (IsErased c.args.block (pair_state (g.A.Die.state c.args.self.now.a) (g.B.Die.state c.args.self.now.b)) (pair_state (g.A.Die.state c.erase.new.self) (g.B.Die.state c.args.self.now.b))) 1 0 (g.A.Die.state c.args.self.now.a) (g.B.Die.state c.args.self.now.b) (g.A.Die.state c.erase.new.self)
+    (λ erased. erased_once c.args.block (pair_state (g.A.Die.state c.args.self.now.a) (g.B.Die.state c.args.self.now.b)) (pair_state (g.A.Die.state c.erase.new.self) (g.B.Die.state c.args.self.now.b)) erased (returns-in-First-clause-only_block g c) (returns-in-First-clause-kept g c).shape)
+    (returns-in-First-clause-erased g c) c.erase.ensures.passed
+
+pub returns-in-Second-clause-passed : goal.returns-in-Second-clause-passed
+returns-in-Second-clause-passed g c =
+    second_ok c.erase-in-Second.result (IsErased c.args.block (pair_state (g.A.Die.state c.args.self.now.a) (g.B.Die.state c.args.self.now.b)) (pair_state (g.A.Die.state c.args.self.now.a) (g.B.Die.state c.erase-in-Second.new.self))) 1 0 (g.A.Die.state c.args.self.now.a) (g.B.Die.state c.args.self.now.b) (g.B.Die.state c.erase-in-Second.new.self)
+    (λ erased. erased_once c.args.block (pair_state (g.A.Die.state c.args.self.now.a) (g.B.Die.state c.args.self.now.b)) (pair_state (g.A.Die.state c.args.self.now.a) (g.B.Die.state c.erase-in-Second.new.self)) erased (returns-in-Second-clause-only_block g c) (returns-in-Second-clause-kept g c).shape)
+    (returns-in-Second-clause-erased g c) c.erase-in-Second.ensures.passed

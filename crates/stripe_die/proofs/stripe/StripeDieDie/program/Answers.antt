@@ -1,5 +1,10 @@
 -- The page is programmed in the die where it stands, and the other die stays as it was.
 use Rattle.std.proofs.Common.{sym}
+use Rattle.std.proofs.Common.{◌≡◌}
+use Rattle.cell_die.specs.DieState.{page_of}
+use Rattle.cell_die.proofs.Changed.{programmed_once}
+use Rattle.stripe_die.specs.Pair.{pair_state}
+use Rattle.stripe_die.proofs.PairCalls.{first_ok, second_ok}
 use Rattle.stripe_die.proofs.Halves.{Halves, Steps, steps_first, steps_second, kept_pair, first_page, second_page, first_page_after, second_page_after, first_inside, second_inside, only_at_first, only_at_second, only_page_pair}
 use Rattle.stripe_die.proofs.stripe.StripeDieDie.program.Goals as goal
 
@@ -126,3 +131,15 @@ returns-in-Second-clause-kept g c =
     let steps : Steps (g.A.Die.state c.args.self.now.a) (g.B.Die.state c.args.self.now.b) (g.A.Die.state c.args.self.now.a) (g.B.Die.state c.program-in-Second.new.self)
     = steps_second halves (g.met.B.Die.shaped c.program-in-Second.new.self) c.program-in-Second.ensures.kept in
     kept_pair steps
+
+pub returns-in-First-clause-passed : goal.returns-in-First-clause-passed
+returns-in-First-clause-passed g c =
+    first_ok c.program.result (page_of (pair_state (g.A.Die.state c.program.new.self) (g.B.Die.state c.args.self.now.b)) c.args.page ≡ c.args.target.now) 1 0 (g.A.Die.state c.args.self.now.a) (g.B.Die.state c.args.self.now.b) (g.A.Die.state c.program.new.self)
+    (λ cells. programmed_once c.args.page c.args.target.now (pair_state (g.A.Die.state c.args.self.now.a) (g.B.Die.state c.args.self.now.b)) (pair_state (g.A.Die.state c.program.new.self) (g.B.Die.state c.args.self.now.b)) c.requires.above cells (returns-in-First-clause-only_page g c) (returns-in-First-clause-kept g c).shape)
+    (returns-in-First-clause-programmed g c) c.program.ensures.passed
+
+pub returns-in-Second-clause-passed : goal.returns-in-Second-clause-passed
+returns-in-Second-clause-passed g c =
+    second_ok c.program-in-Second.result (page_of (pair_state (g.A.Die.state c.args.self.now.a) (g.B.Die.state c.program-in-Second.new.self)) c.args.page ≡ c.args.target.now) 1 0 (g.A.Die.state c.args.self.now.a) (g.B.Die.state c.args.self.now.b) (g.B.Die.state c.program-in-Second.new.self)
+    (λ cells. programmed_once c.args.page c.args.target.now (pair_state (g.A.Die.state c.args.self.now.a) (g.B.Die.state c.args.self.now.b)) (pair_state (g.A.Die.state c.args.self.now.a) (g.B.Die.state c.program-in-Second.new.self)) c.requires.above cells (returns-in-Second-clause-only_page g c) (returns-in-Second-clause-kept g c).shape)
+    (returns-in-Second-clause-programmed g c) c.program-in-Second.ensures.passed
