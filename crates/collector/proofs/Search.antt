@@ -8,7 +8,7 @@ use Rattle.cell_die.specs.Cells.{page_at}
 use Rattle.cell_die.specs.DieState.{DieState, page_of}
 use Rattle.cell_die.specs.Changes.{SameCells}
 use Rattle.cell_die.specs.Calls.{Kept, Passed, ReadFailed}
-use Rattle.cell_die.proofs.Sequences.{kept_trans, passed_trans, read_failed_after, read_failed_within}
+use Rattle.cell_die.proofs.Sequences.{kept_refl, kept_trans, passed_none, passed_trans, read_failed_after, read_failed_within}
 use Rattle.spare_gate.specs.Slots.{header_at}
 use Rattle.sector_map.specs.declared.entry.Entry.{Entry}
 use Rattle.sector_map.specs.Entry.{entry_at}
@@ -124,6 +124,15 @@ pub record Searched (table : List (Option Entry)) (sizes : Sizes) (old die : Die
   pub kept : Kept old die
   pub passed : Passed 0 (page - from) old die
   pub none : (place : Place) → from ≤ place.page → place.page < page → place.slot < sizes.generations → named_in table sizes.page_bytes old place ≡ None
+
+-- before the first page
+pub searched_none : (table : List (Option Entry)) (sizes : Sizes) (die : DieState) (from : ℕ) → Searched table sizes die die from from
+searched_none table sizes die from = record {
+  same_cells = record { cells = refl; erases = refl };
+  kept = kept_refl die;
+  passed = (let none : 0 ≡ from - from = omega arith in subst (λ (n : ℕ). Passed 0 n die die) none (passed_none die));
+  none = λ place low high slot. absurd (omega (arith, low, high));
+}
 
 -- the first record on a page, where none stands before it
 pub first_found : (table : List (Option Entry)) (sizes : Sizes) (old die : DieState) (from pages page : ℕ) (live : LiveRecord) → Searched table sizes old die from page → from ≤ page → page < from + pages

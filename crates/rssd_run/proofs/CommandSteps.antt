@@ -168,7 +168,7 @@ trim_change_fault d base old new sector in_range power calm holds w f =
           changes = f.changes;
           reads = f.reads;
           within = trim_plus d base old.view sector f.changes f.reads f.within;
-          cut_came = λ cut. (came.within, came.read);
+          cut_came = λ cut. (came.within, came.read, came.left);
           read_came = λ read. absurd (omega (arith, came.read.to_come read.0, read.1));
         };
       };
@@ -284,7 +284,7 @@ idle_change_fault d base old new n power calm holds w f =
           changes = f.changes;
           reads = f.reads;
           within = idle_plus d base n old.view new.view f.changes f.reads f.within;
-          cut_came = λ cut. (came.within, came.read);
+          cut_came = λ cut. (came.within, came.read, came.left);
           read_came = λ read. absurd (omega (arith, came.read.to_come read.0, read.1));
         };
       };

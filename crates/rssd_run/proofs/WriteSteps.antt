@@ -274,7 +274,7 @@ write_change_fault d base old new sector bytes tried power calm holds w f =
           changes = f.changes;
           reads = f.reads;
           within = within_plus d base old.view (filled_up d.geometry.sector_bytes bytes) f.changes f.reads f.within;
-          cut_came = λ cut. (came.within, came.read);
+          cut_came = λ cut. (came.within, came.read, came.left);
           read_came = λ read. absurd (omega (arith, came.read.to_come read.0, read.1));
         };
       };

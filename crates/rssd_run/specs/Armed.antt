@@ -1,7 +1,8 @@
 -- Armed failures: a cut and a read failure come at the call that their line named.
-use Rattle.std.specs.Prelude.{◌≡◌, ℕ, ◌*◌, ◌<◌, ◌≤◌}
+use Rattle.std.specs.Prelude.{◌≡◌, ℕ, ◌*◌, ◌-◌, ◌<◌, ◌≤◌}
 use Rattle.cell_die.specs.declared.shape.Torn.{Torn}
 use Rattle.cell_die.specs.declared.shape.Torn.TheVariants.{Nothing, All, Mask}
+use Rattle.cell_die.specs.Changed.{EndsCut}
 use Rattle.cell_die.specs.Power.{told, with_cut, with_read_failure}
 use Rattle.rssd_core.specs.Rules.{next_page}
 use Rattle.page_codec.specs.Geometry.{page_count}
@@ -80,7 +81,9 @@ pub record FaultWithin (d : Numbers) (e : Event) : Type 0 where
   pub changes : ℕ
   pub reads : ℕ
   pub within : Within d e e.line changes reads
+  -- a cut came: the change calls before it were carried out whole, and it was cut in the form that was armed
   pub cut_came : ACut e → (cut_of e.before.device.die ≤ changes) × LowerWithin reads (read_failure_of e.before.device.die) (read_failure_of e.after.device.die)
+      × EndsCut (cut_of e.before.device.die - 1) (form_of e.before.device.die) e.before.device.die e.after.device.die
   pub read_came : AReadFailure e → (read_failure_of e.before.device.die ≤ reads) × LowerWithin changes (cut_of e.before.device.die) (cut_of e.after.device.die)
       × (0 < cut_of e.after.device.die → form_of e.after.device.die ≡ form_of e.before.device.die)
 

@@ -43,7 +43,7 @@ first_nearer calls reads None x' y near = tt
 first_nearer calls reads (Some a) None y near = absurd near
 first_nearer calls reads (Some a) (Some b) None near = tt
 first_nearer calls reads (Some a) (Some b) (Some e) near = told_idle calls reads (is_idle a && is_idle e) (is_idle b && is_idle e) (λ both.
-    let parts = and_parts _ _ both in
+    let parts = and_parts (is_idle a) (is_idle e) both in
     let after : is_idle b ≡ true = is_idle_after calls reads a b parts.0 (near (idle_parts a parts.0).0) in
     rw (after, parts.1) refl)
 
@@ -52,7 +52,7 @@ second_nearer calls reads None y y' near = tt
 second_nearer calls reads (Some e) None y' near = tt
 second_nearer calls reads (Some e) (Some a) None near = absurd near
 second_nearer calls reads (Some e) (Some a) (Some b) near = told_idle calls reads (is_idle e && is_idle a) (is_idle e && is_idle b) (λ both.
-    let parts = and_parts _ _ both in
+    let parts = and_parts (is_idle e) (is_idle a) both in
     let after : is_idle b ≡ true = is_idle_after calls reads a b parts.1 (near (idle_parts a parts.1).0) in
     rw (parts.0, after) refl)
 

@@ -1,7 +1,7 @@
 -- The page that was scanned last has the first record that the map names, or none, and then the search goes on.
-use Rattle.std.proofs.Common.{Some, None, sym, ◌∙◌, arith, rules}
+use Rattle.std.proofs.Common.{Some, None, refl, sym, ◌∙◌, arith, rules}
 use Rattle.std.proofs.lemmas.Result.{err_from_is_err_and}
-use Rattle.collector.proofs.Search.{seen_of, one_seen, first_found, searched_more, searched_passed, searched_failed, none_is}
+use Rattle.collector.proofs.Search.{searched_none, seen_of, one_seen, first_found, searched_more, searched_passed, searched_failed, none_is}
 use Rattle.collector.proofs.live.find_first.Goals as goal
 
 pub returns-in-Some-clause-found : goal.returns-in-Some-clause-found
@@ -35,3 +35,6 @@ loop-page-preserved g c =
       same_work = c.in_ok-seen.ensures.same_work ∙ c.loop-page.invariant.same_work;
       same_map = search rules;
     }
+
+pub loop-page-init : goal.loop-page-init
+loop-page-init g c = record { searched = searched_none c.args.map.now c.args.work.now (g.D.Die.state c.args.die.now) c.args.from; same_work = refl; same_map = refl }

@@ -1,11 +1,11 @@
 -- The pages are read one after another, and when all are read what they showed is what the block's cells make it.
-use Rattle.std.proofs.Common.{◌≡◌, ◌+◌, ◌<◌, ◌≤◌, length, refl, sym, ap, ◌∙◌, subst, arith}
+use Rattle.std.proofs.Common.{◌≡◌, ◌+◌, ◌<◌, ◌≤◌, length, refl, sym, ap, ◌∙◌, subst, arith, rules}
 use Rattle.std.proofs.lemmas.Result.{err_from_is_err_and}
 use Rattle.cell_die.specs.declared.shape.Shape.{Shape}
 use Rattle.page_codec.specs.Geometry.{Geometry}
 use Rattle.mount_scan.specs.Scanned.{ReadInto, Reads, Shows, geometry_of}
 use Rattle.mount_scan.proofs.Blocks.{block_read}
-use Rattle.mount_scan.proofs.PageReads.{fails_after, reads_more}
+use Rattle.mount_scan.proofs.PageReads.{fails_after, reads_more, reads_none}
 use Rattle.mount_scan.proofs.Sights.{block_blank, block_level}
 use Rattle.mount_scan.proofs.block.read_block.Goals as goal
 
@@ -46,3 +46,6 @@ returns-clause-reads g c =
     let i = c.loop-number.invariant in
     let all : c.loop-number.number ≡ (g.D.Die.state c.args.die.now).shape.pages = omega (arith, i.end, c.loop-number-test.false, c.loop-number.auto.number-end) in
     subst (λ k. Reads k (g.D.Die.state c.args.die.now) (g.D.Die.state c.loop-number.die)) all i.reads
+
+pub loop-number-init : goal.loop-number-init
+loop-number-init g c = let reads : Reads 0 (g.D.Die.state c.args.die.now) (g.D.Die.state c.args.die.now) = reads_none (g.D.Die.state c.args.die.now) in search rules

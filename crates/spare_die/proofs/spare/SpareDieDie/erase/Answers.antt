@@ -171,5 +171,5 @@ returns-in-Bad-clause-counted g c = λ running. counts_replaced c.erase_home.ens
 pub returns-in-Bad-clause-cause : goal.returns-in-Bad-clause-cause
 returns-in-Bad-clause-cause g c =
     let home = c.in_ok-erase_home in
-    let rose = subst (λ (n : ℕ). Rose (g.D.WornDie.bad_erases c.args.self.now.inner) n) (sym c.replace.ensures.same_bad) (home.ensures.bad_rose (home.is ∙ ap Ok c.in-Bad.is)) in
-    on_err_weaker (λ failed. ⊎_elim (λ call. inr (inl (change_failed_after home.ensures.passed call.0))) (λ used. inr (inr (rose, used.2))) failed) c.replace.ensures.failed
+    let rose = subst (λ (n : ℕ). Rose (g.D.WornDie.bad_erases c.args.self.now.inner) n) (sym c.replace.ensures.same_bad) (c.erase_home.ensures.bad_rose (home.was ∙ ap Ok c.in-Bad.is)) in
+    on_err_weaker c.replace.result (λ failed. ⊎_elim (λ call. inr (inl (change_failed_after home.ensures.passed call.0))) (λ used. inr (inr (rose, used.2))) failed) c.replace.ensures.failed
