@@ -8,13 +8,14 @@ use Rattle.die_image.specs.declared.head.ImageHead.{ImageHead}
 use Rattle.rssd_words.specs.declared.command.Command.{Command}
 use Rattle.rssd_words.specs.declared.command.Command.TheVariants.{Replay, Run, Format, Make, Upgrade, Queue, Worn, Pair, Audit}
 use Rattle.rssd_run.specs.declared.status.Status.{Status}
-use Rattle.rssd_run.specs.declared.status.Status.TheVariants.{Done, BadWords, BadScript, BadImage, ReadFault, WriteFault, OutOfMemory}
+use Rattle.rssd_run.specs.declared.status.Status.TheVariants.{Done, BadWords, BadScript, BadImage, ReadFault, WriteFault, OutOfMemory, Unsound}
 use Rattle.rssd_run.specs.Statuses.{Call, WriteFailed}
 use Rattle.rssd_run.specs.ImageRuns.{IsFull}
 use Rattle.rssd_run.specs.Run.{pieces_of}
 use Rattle.rssd_run.specs.MakeRuns.{SaysMake}
+use Rattle.rssd_run.proofs.AuditLaws.{found_again}
 use Rattle.rssd_run.proofs.CallStops.{stopped, unflushed, never_refused}
-use Rattle.rssd_run.specs.Top.{SaysOf, SaysReplay, SaysRun, SaysFormat, SaysUpgrade, IsRunCutOff, IsBadImage, IsNoImage, HasScript, HasImage, HasOldImage, NoneFailed, IsComplete}
+use Rattle.rssd_run.specs.Top.{SaysOf, SaysReplay, SaysRun, SaysFormat, SaysUpgrade, IsRunCutOff, IsBadImage, IsNoImage, HasScript, HasImage, HasOldImage, NoneFailed, IsComplete, SaysAudit, HasSoundImage}
 
 replay_stopped : (head : ImageHead) (call : Call) → SaysReplay head call.script call.out WriteFault → WriteFailed call.out
 replay_stopped head call says = elim says.stops [
@@ -67,6 +68,7 @@ replay_completes head call ReadFault says script none = absurd (none.no_script_f
 replay_completes head call WriteFault says script none = absurd (none.no_out_fault (replay_stopped head call says))
 replay_completes head call BadWords says script none = absurd says
 replay_completes head call BadImage says script none = absurd says
+replay_completes head call Unsound says script none = absurd says
 
 run_completes : (call : Call) (status : Status) → SaysRun call.image call.script call.out call.image_out status → HasScript call → HasImage call → NoneFailed call → (status ≡ Done) ⊎ (status ≡ OutOfMemory)
 run_completes call Done says script image none = inl refl
@@ -77,6 +79,7 @@ run_completes call ReadFault says script image none = absurd (elim says.0 [ inl 
 run_completes call WriteFault says script image none =
     absurd (elim says [ inl cut_off ↦ none.no_out_fault (run_stopped call cut_off.0) | inr cut_off ↦ none.no_image_out_fault (stopped _ call.image_out.before call.image_out.after cut_off.written) ])
 run_completes call BadWords says script image none = absurd says
+run_completes call Unsound says script image none = absurd says
 
 format_completes : (head : ImageHead) (call : Call) (status : Status) → SaysFormat head call.image_out status → NoneFailed call → (status ≡ Done) ⊎ (status ≡ OutOfMemory)
 format_completes head call Done says none = inl refl
@@ -86,6 +89,7 @@ format_completes head call BadWords says none = absurd says
 format_completes head call BadScript says none = absurd says
 format_completes head call BadImage says none = absurd says
 format_completes head call ReadFault says none = absurd says
+format_completes head call Unsound says none = absurd says
 
 upgrade_completes : (call : Call) (status : Status) → SaysUpgrade call.image call.out call.image_out status → HasOldImage call → NoneFailed call → (status ≡ Done) ⊎ (status ≡ OutOfMemory)
 upgrade_completes call Done says image none = inl refl
@@ -95,6 +99,7 @@ upgrade_completes call ReadFault says image none = absurd (none.no_image_fault s
 upgrade_completes call WriteFault says image none = absurd (none.no_image_out_fault (stopped _ call.image_out.before call.image_out.after says.0.written))
 upgrade_completes call BadWords says image none = absurd says
 upgrade_completes call BadScript says image none = absurd says
+upgrade_completes call Unsound says image none = absurd says
 
 make_completes : (head : ImageHead) (seed count : ℕ) (call : Call) (status : Status) → SaysMake head seed count call.out status → NoneFailed call → (status ≡ Done) ⊎ (status ≡ OutOfMemory)
 make_completes head seed count call Done says none = inl refl
@@ -104,6 +109,18 @@ make_completes head seed count call BadWords says none = absurd says
 make_completes head seed count call BadScript says none = absurd says
 make_completes head seed count call BadImage says none = absurd says
 make_completes head seed count call ReadFault says none = absurd says
+make_completes head seed count call Unsound says none = absurd says
+
+audit_completes : (call : Call) (status : Status) → SaysAudit call.image call.out status → HasSoundImage call → NoneFailed call → (status ≡ Done) ⊎ (status ≡ OutOfMemory)
+audit_completes call Done says image none = inl refl
+audit_completes call OutOfMemory says image none = inr refl
+audit_completes call BadImage says image none = absurd (let is = image.is_image in let not = says.refused.refused in cc)
+audit_completes call ReadFault says image none = absurd (none.no_image_fault says.0)
+audit_completes call WriteFault says image none = absurd (none.no_out_fault (stopped _ call.out.before call.out.after says.lines))
+audit_completes call Unsound says image none =
+    absurd (says.not_sound (found_again call.image says.read image.head image.cells image.is_image image.audit))
+audit_completes call BadWords says image none = absurd says
+audit_completes call BadScript says image none = absurd says
 
 pub completes : (command : Command) (call : Call) (status : Status) → SaysOf command call status → IsComplete command call status
 completes (Replay head) call status says asked none = replay_completes head call status says.0 asked none
@@ -114,4 +131,4 @@ completes (Make seed count head) call status says asked none = make_completes he
 completes (Queue head) call status says asked none = absurd asked
 completes (Worn head reserve bad) call status says asked none = absurd asked
 completes (Pair head) call status says asked none = absurd asked
-completes Audit call status says asked none = absurd asked
+completes Audit call status says asked none = audit_completes call status says.0 asked none

@@ -29,6 +29,7 @@ pub mod SavedErases
 pub mod Spending
 pub mod ImageRuns
 pub mod LeftCells
+pub mod AuditLaws
 pub mod Completeness
 pub mod Rows
 pub mod CalmLines

@@ -26,4 +26,5 @@ pub mod Headline
 pub mod Reuse
 pub mod Workloads
 pub mod MakeRuns
+pub mod AuditRuns
 pub mod Upgrades

@@ -7,15 +7,16 @@ use Rattle.die_image.specs.declared.error.ImageError.{ImageError}
 use Rattle.die_image.specs.declared.error.ImageError.TheVariants as images
 use Rattle.die_image.specs.declared.head.ImageHead.{ImageHead}
 use Rattle.die_image.specs.Image.{shape_of, die_bytes, image_read}
+use Rattle.image_audit.specs.declared.verdict.Verdict.TheVariants.{Sound}
 use Rattle.rssd_words.specs.declared.command.Command.{Command}
-use Rattle.rssd_words.specs.declared.command.Command.TheVariants.{Replay, Run, Format, Upgrade, Make}
+use Rattle.rssd_words.specs.declared.command.Command.TheVariants.{Replay, Run, Format, Upgrade, Make, Audit}
 use Rattle.rssd_words.specs.Commands.{words_of, IsWithin}
 use Rattle.rssd_io.specs.Event.{Event, flushed, failed}
 use Rattle.rssd_script.specs.declared.lines.Line.{Line}
 use Rattle.rssd_script.specs.Script.{FirstBadLine}
 use Rattle.rssd_script.specs.Scripts.{Reads, most_bytes}
 use Rattle.rssd_run.specs.declared.status.Status.{Status}
-use Rattle.rssd_run.specs.declared.status.Status.TheVariants.{Done, BadWords, BadScript, BadImage, ReadFault, WriteFault, OutOfMemory}
+use Rattle.rssd_run.specs.declared.status.Status.TheVariants.{Done, BadWords, BadScript, BadImage, ReadFault, WriteFault, OutOfMemory, Unsound}
 use Rattle.rssd_run.specs.Statuses.{Call, Input, Output, takes, taken, IsTakenWhole, ReadFailed, IsUntouched, Took, TookPart, TookNothing, GaveLine, WriteFailed, bad_words, too_long, bad_line, bad_image, no_spare}
 use Rattle.rssd_run.specs.ReadScript.{ReadsAll, TakesScript}
 use Rattle.rssd_run.specs.ReadImage.{ReadsImage, TakesImage, IsNoImageFor}
@@ -23,6 +24,7 @@ use Rattle.rssd_run.specs.GiveImage.{image_pieces}
 use Rattle.rssd_run.specs.Heads.{numbers_named}
 use Rattle.rssd_run.specs.Replays.{Replays, ReplaysFront}
 use Rattle.rssd_run.specs.MakeRuns.{SaysMake}
+use Rattle.rssd_run.specs.AuditRuns.{IsAuditOf, IsAudited, IsAuditCutOff, IsUnsound}
 use Rattle.rssd_run.specs.ImageRuns.{HasCells, RunsImage, RunsImageFront, IsFull}
 
 -- the words spell this command, whose numbers are within its limits
@@ -194,6 +196,18 @@ SaysUpgrade image out image_out WriteFault = IsUpgradeCutOff image image_out × 
 SaysUpgrade image out image_out OutOfMemory = TookNothing out × TookNothing image_out
 SaysUpgrade image out image_out status = ⊥
 
+-- ---- `audit`
+
+-- what each status says of an audit
+abbrev pub SaysAudit : Input → Output → Status → Type 0
+SaysAudit image out Done = IsAudited image out
+SaysAudit image out BadImage = IsNoImage false image out
+SaysAudit image out ReadFault = ReadFailed image × TookNothing out
+SaysAudit image out WriteFault = IsAuditCutOff image out
+SaysAudit image out OutOfMemory = TookNothing out
+SaysAudit image out Unsound = IsUnsound image out
+SaysAudit image out status = ⊥
+
 -- ---- all commands
 
 -- `out` took the line for words that are no command
@@ -207,6 +221,7 @@ SaysOf Run call status = SaysRun call.image call.script call.out call.image_out 
 SaysOf (Make seed count head) call status = SaysMake head seed count call.out status
 SaysOf (Format head) call status = SaysFormat head call.image_out status × TookNothing call.out
 SaysOf Upgrade call status = SaysUpgrade call.image call.out call.image_out status × TakesImage true call.image.before call.image.after
+SaysOf Audit call status = SaysAudit call.image call.out status × TakesImage false call.image.before call.image.after
 SaysOf command call status = AreBad call status
 
 -- no source and no sink failed
@@ -234,6 +249,14 @@ pub record HasOldImage (call : Call) : Type 0 where
   pub cells : List ℕ
   pub is_image : image_read true (taken call.image) ≡ Ok (head, cells)
 
+-- what was taken of the image is in its grammar, and an audit of it finds its cells sound
+pub record HasSoundImage (call : Call) : Type 0 where
+  pub head : ImageHead
+  pub cells : List ℕ
+  pub is_image : image_read false (taken call.image) ≡ Ok (head, cells)
+  pub told : List (ℕ × List ℕ)
+  pub audit : IsAuditOf head cells Sound told
+
 -- all that a command reads is in its grammar
 abbrev pub IsAsked : Command → Call → Type 0
 IsAsked (Replay head) call = HasScript call
@@ -241,6 +264,7 @@ IsAsked Run call = HasScript call × HasImage call
 IsAsked (Make seed count head) call = Unit {0}
 IsAsked (Format head) call = Unit {0}
 IsAsked Upgrade call = HasOldImage call
+IsAsked Audit call = HasSoundImage call
 IsAsked command call = ⊥
 
 -- then the status is 0, or 7
@@ -262,6 +286,7 @@ LeavesScript command = Unit {0}
 abbrev pub LeavesImage : Command → Type 0
 LeavesImage Run = ⊥
 LeavesImage Upgrade = ⊥
+LeavesImage Audit = ⊥
 LeavesImage command = Unit {0}
 
 abbrev pub LeavesImageOut : Command → Type 0

@@ -7,6 +7,7 @@ ghost use Rattle.rssd_run.specs.Exchanges.{AnswersSession, AnswersAll, AnswersFr
 ghost use Rattle.rssd_run.specs.Run.{RunsSession, CutsOffSession};
 ghost use Rattle.rssd_run.specs.Shows.{SessionValue, CanStep, HasNumbers, KeepsSession, StepsSession};
 
+pub mod audit_run;
 pub mod image;
 pub mod image_run;
 pub mod line;
