@@ -25,4 +25,5 @@ pub mod Headline
 pub mod Reuse
 pub mod Workloads
 pub mod MakeRuns
+pub mod PlayRuns
 pub mod Upgrades
