@@ -36,4 +36,9 @@ pub mod CalmLines
 pub mod WorkloadLines
 pub mod HeldRows
 pub mod MadeRuns
+pub mod Plays
+pub mod PlayStart
+pub mod PairPlays
+pub mod WornPlays
+pub mod PlayLaws
 pub mod CallStops

@@ -27,4 +27,5 @@ pub mod Reuse
 pub mod Workloads
 pub mod MakeRuns
 pub mod AuditRuns
+pub mod PlayRuns
 pub mod Upgrades

@@ -13,6 +13,8 @@ pub mod image_run;
 pub mod line;
 pub mod make_run;
 pub mod on_die;
+pub mod play_run;
+pub mod playing;
 pub mod replay;
 pub mod reuse;
 pub mod schemes;
