@@ -10,8 +10,9 @@ COMMANDS = {
     "format": HEAD,
     "make": ("SEED", "COUNT", *HEAD),
     "upgrade": (),
+    "audit": (),
 }
-TO_COME = ("queue", "worn", "pair", "audit")
+TO_COME = ("queue", "worn", "pair")
 READ_A_SCRIPT = ("replay", "run")
 MOST_COUNT = 20_000
 LINES = {"write": 2, "read": 1, "trim": 1, "idle": 1, "cut": 2, "failread": 1, "mount": 0, "stat": 0}
@@ -24,6 +25,7 @@ STATUSES = {
     5: "standard input or die.img could not be read; is there a die.img in this folder?",
     6: "standard output or die.new could not be written; die.new is as before",
     7: "there was no memory",
+    8: "the cells of die.img are not sound; the line says which part of soundness does not hold, and where",
     70: "./rssd could not build the program; build/log says why",
 }
 
