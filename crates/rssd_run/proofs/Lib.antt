@@ -12,6 +12,7 @@ pub mod Sessions
 pub mod PlayedSteps
 pub mod AnsweredKept
 pub mod Answered
+pub mod ServedSteps
 pub mod Fields
 pub mod Runs
 pub mod Errors

@@ -10,6 +10,7 @@ pub mod Run
 pub mod Held
 pub mod Steps
 pub mod Shows
+pub mod Serves
 pub mod Played
 pub mod ReadScript
 pub mod ReadImage
