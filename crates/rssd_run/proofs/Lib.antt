@@ -15,6 +15,9 @@ pub mod Answered
 pub mod ServedSteps
 pub mod Fields
 pub mod Runs
+pub mod QueueActs
+pub mod QueueTags
+pub mod QueueLaws
 pub mod Errors
 pub mod ReadScript
 pub mod ReadImage
@@ -23,6 +26,7 @@ pub mod BlankCells
 pub mod HeadLimits
 pub mod DieStart
 pub mod BlankStart
+pub mod QueueRuns
 pub mod Calm
 pub mod Headline
 pub mod SavedErases

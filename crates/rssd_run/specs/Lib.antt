@@ -11,6 +11,9 @@ pub mod Held
 pub mod Steps
 pub mod Shows
 pub mod Serves
+pub mod QueueActs
+pub mod QueueRuns
+pub mod QueueLaws
 pub mod Played
 pub mod ReadScript
 pub mod ReadImage

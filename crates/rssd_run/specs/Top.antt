@@ -8,7 +8,7 @@ use Rattle.die_image.specs.declared.error.ImageError.TheVariants as images
 use Rattle.die_image.specs.declared.head.ImageHead.{ImageHead}
 use Rattle.die_image.specs.Image.{shape_of, die_bytes, image_read}
 use Rattle.rssd_words.specs.declared.command.Command.{Command}
-use Rattle.rssd_words.specs.declared.command.Command.TheVariants.{Replay, Run, Format, Upgrade, Make}
+use Rattle.rssd_words.specs.declared.command.Command.TheVariants.{Replay, Run, Format, Upgrade, Make, Queue}
 use Rattle.rssd_words.specs.Commands.{words_of, IsWithin}
 use Rattle.rssd_io.specs.Event.{Event, flushed, failed}
 use Rattle.rssd_script.specs.declared.lines.Line.{Line}
@@ -23,6 +23,7 @@ use Rattle.rssd_run.specs.GiveImage.{image_pieces}
 use Rattle.rssd_run.specs.Heads.{numbers_named}
 use Rattle.rssd_run.specs.Replays.{Replays, ReplaysFront}
 use Rattle.rssd_run.specs.MakeRuns.{SaysMake}
+use Rattle.rssd_run.specs.QueueRuns.{Queues, QueuesFront}
 use Rattle.rssd_run.specs.ImageRuns.{HasCells, RunsImage, RunsImageFront, IsFull}
 
 -- the words spell this command, whose numbers are within its limits
@@ -69,6 +70,35 @@ SaysReplay head script out ReadFault = ReadFailed script × TookNothing out
 SaysReplay head script out WriteFault = IsReplayCutOff head script out
 SaysReplay head script out OutOfMemory = TookNothing out
 SaysReplay head script out status = ⊥
+
+-- ---- `queue`
+
+-- `out` took the text of each reply with its tag in one piece, and then handed them on
+pub record IsQueued (head : ImageHead) (script : Input) (out : Output) : Type 0 where
+  pub lines : List Line
+  pub is_script : HasLines script lines
+  pub given : List Event
+  pub queues : Queues head lines out.before given
+  pub handed_on : out.after ≡ given ++ flushed ∷ []
+
+-- `out` failed: at the piece of some reply, after those before it; or at handing on, after all
+abbrev pub StopsQueue : ImageHead → List Line → Output → Type 0
+StopsQueue head lines out = QueuesFront head lines out.before out.after
+    ⊎ ((given : List Event) × Queues head lines out.before given × (out.after ≡ given ++ failed ∷ []))
+
+pub record IsQueueCutOff (head : ImageHead) (script : Input) (out : Output) : Type 0 where
+  pub lines : List Line
+  pub is_script : HasLines script lines
+  pub stops : StopsQueue head lines out
+
+-- what each status says of a queue run
+abbrev pub SaysQueue : ImageHead → Input → Output → Status → Type 0
+SaysQueue head script out Done = IsQueued head script out
+SaysQueue head script out BadScript = IsRefused script out
+SaysQueue head script out ReadFault = ReadFailed script × TookNothing out
+SaysQueue head script out WriteFault = IsQueueCutOff head script out
+SaysQueue head script out OutOfMemory = TookNothing out
+SaysQueue head script out status = ⊥
 
 -- ---- `run`
 
@@ -207,6 +237,7 @@ SaysOf Run call status = SaysRun call.image call.script call.out call.image_out 
 SaysOf (Make seed count head) call status = SaysMake head seed count call.out status
 SaysOf (Format head) call status = SaysFormat head call.image_out status × TookNothing call.out
 SaysOf Upgrade call status = SaysUpgrade call.image call.out call.image_out status × TakesImage true call.image.before call.image.after
+SaysOf (Queue head) call status = SaysQueue head call.script call.out status × TakesScript call.script.before call.script.after
 SaysOf command call status = AreBad call status
 
 -- no source and no sink failed
@@ -241,6 +272,7 @@ IsAsked Run call = HasScript call × HasImage call
 IsAsked (Make seed count head) call = Unit {0}
 IsAsked (Format head) call = Unit {0}
 IsAsked Upgrade call = HasOldImage call
+IsAsked (Queue head) call = HasScript call
 IsAsked command call = ⊥
 
 -- then the status is 0, or 7
@@ -257,6 +289,7 @@ pub record Says (call : Call) (status : Status) : Type 0 where
 abbrev pub LeavesScript : Command → Type 0
 LeavesScript (Replay head) = ⊥
 LeavesScript Run = ⊥
+LeavesScript (Queue head) = ⊥
 LeavesScript command = Unit {0}
 
 abbrev pub LeavesImage : Command → Type 0

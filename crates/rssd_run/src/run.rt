@@ -12,6 +12,8 @@ pub mod image_run;
 pub mod line;
 pub mod make_run;
 pub mod on_die;
+pub mod queue_lines;
+pub mod queue_run;
 pub mod replay;
 pub mod reuse;
 pub mod schemes;

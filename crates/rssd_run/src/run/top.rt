@@ -1,5 +1,5 @@
-//! The top call: words and input to output and a status. It knows the commands `replay`, `run`, `format`, `make` and
-//! `upgrade`; any other words are bad.
+//! The top call: words and input to output and a status. It knows the commands `replay`, `run`, `format`, `make`,
+//! `upgrade` and `queue`; any other words are bad.
 ghost use Rattle.std.specs.Prelude.{◌≡◌, ℕ, List, map, string_bytes, true, false};
 ghost use Rattle.die_image.specs.Image.{is_within_limits};
 ghost use Rattle.rssd_run.specs.declared.status.Status.{Status as How};
@@ -14,6 +14,7 @@ use crate::run::image::{ImageReadError, give_image, read_image};
 use crate::run::image_run::{blank_cells, cells_of, run_image};
 use crate::run::make_run::answer_make;
 use crate::run::on_die::RunError;
+use crate::run::queue_run::answer_queue;
 use crate::run::replay::replay;
 use crate::run::script::{ReadError, read_script};
 use crate::run::workload::Seeded;
@@ -163,6 +164,7 @@ fn answer_command<I: Source, T: Source, O: Sink, G: Sink>(
             answer_make(alloc, head, seeded, out)
         }
         Command::Upgrade => answer_upgrade(alloc, image, out, image_out),
+        Command::Queue(head) => answer_queue(alloc, head, script, out),
         _ => refuse_words(out),
     }
 }
@@ -203,6 +205,8 @@ fn answer<I: Source, T: Source, O: Sink, G: Sink>(
 /// - `make SEED COUNT SCHEME BLOCKS PAGES SECTORS REUSE` steps the lines of a workload, which is a function of its seed, on a blank
 ///   die, and gives two lines to `out`: the reply to `stat`, and what the sectors hold.
 /// - `upgrade` reads an image of version 1, and gives the image of version 2 with the same head and cells to `image_out`.
+/// - `queue SCHEME BLOCKS PAGES SECTORS REUSE` is `replay` with a queue before the device: each reply stands behind the number of
+///   its line, and reads overtake writes of other sectors.
 ///
 /// The other commands are not known yet: their words are bad. A source that the command does not read, and a sink that it does
 /// not write, are as before the call.
