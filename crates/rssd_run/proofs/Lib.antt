@@ -18,6 +18,7 @@ pub mod Runs
 pub mod QueueActs
 pub mod QueueTags
 pub mod QueueLaws
+pub mod QueueReads
 pub mod Errors
 pub mod ReadScript
 pub mod ReadImage

@@ -8,9 +8,9 @@ ghost use Rattle.mem_die.specs.MemState.{mem_state, IsNew};
 ghost use Rattle.rssd_io.specs.Event.{Event};
 ghost use Rattle.rssd_script.specs.declared.lines.Line.{Line as Spelled};
 ghost use Rattle.rssd_run.specs.Headline.{AllKeepHeadline, ChargeNeverFalls};
-ghost use Rattle.rssd_run.specs.Heads.{numbers_named};
+ghost use Rattle.rssd_run.specs.Heads.{numbers_named, zero_sectors};
 ghost use Rattle.rssd_run.specs.QueueActs.{steps_of};
-ghost use Rattle.rssd_run.specs.QueueLaws.{ServesAll};
+ghost use Rattle.rssd_run.specs.QueueLaws.{ReadsTheOrder, ServesAll};
 ghost use Rattle.rssd_run.specs.QueueRuns.{Queues, QueuesFront};
 ghost use Rattle.rssd_run.specs.ReadScript.{TakesScript};
 ghost use Rattle.rssd_run.specs.Run.{IsRun};
@@ -183,4 +183,11 @@ pub fn charge_never_falls_in_a_queue_run()
 pub fn queue_runs_serve_all_in_order()
     ensures { (head : Head) (lines : List Spelled) (log after : List Event) (given : Queues head lines log after)
         → ServesAll (row_of head.scheme).sector_bytes given.acts.acts }
+{}
+
+/// Where no served command is refused, each read that is served tells the row that the array has where the commands are carried
+/// out in the order of their lines, and all rows are zeros at first.
+pub fn reads_of_a_queue_run_give_the_rows_of_the_order()
+    ensures { (head : Head) (lines : List Spelled) (log after : List Event) (given : Queues head lines log after)
+        → ReadsTheOrder (row_of head.scheme).sector_bytes (zero_sectors head) given.acts.acts }
 {}
