@@ -16,13 +16,14 @@ use Rattle.rssd_run.specs.Run.{pieces_of}
 use Rattle.rssd_run.specs.MakeRuns.{SaysMake}
 use Rattle.rssd_run.proofs.AuditLaws.{found_again}
 use Rattle.rssd_run.proofs.CallStops.{stopped, unflushed, never_refused}
-use Rattle.rssd_run.specs.Top.{SaysOf, SaysReplay, SaysRun, SaysFormat, SaysUpgrade, IsRunCutOff, IsBadImage, IsNoImage, HasScript, HasImage, HasOldImage, NoneFailed, IsComplete, SaysAudit, HasSoundImage, IsRefused, HasPlayed, PlaysScript, HasUnplayed, SaysPlay}
+use Rattle.rssd_run.specs.Top.{SaysOf, SaysReplay, SaysRun, SaysFormat, SaysUpgrade, IsRunCutOff, IsBadImage, IsNoImage, HasScript, HasImage, HasOldImage, NoneFailed, IsComplete, SaysAudit, HasSoundImage, IsRefused, HasPlayed, PlaysScript, HasUnplayed, SaysPlay, SaysQueue}
 use Rattle.rssd_core.specs.DeviceValue.{Numbers}
 use Rattle.rssd_script.specs.declared.lines.Line.{Line}
 use Rattle.rssd_script.specs.declared.lines.Line.TheVariants.{Mount}
 use Rattle.rssd_run.specs.View.{View, Event as Step}
 use Rattle.rssd_run.specs.Heads.{numbers_named}
 use Rattle.rssd_run.specs.Played.{IsPlayed}
+use Rattle.rssd_run.specs.QueueActs.{texts_of}
 
 replay_stopped : (head : ImageHead) (call : Call) → SaysReplay head call.script call.out WriteFault → WriteFailed call.out
 replay_stopped head call says = elim says.stops [
@@ -164,13 +165,35 @@ play_completes S P d call BadWords says asked none = absurd says
 play_completes S P d call BadImage says asked none = absurd says
 play_completes S P d call Unsound says asked none = absurd says
 
+queue_stopped : (head : ImageHead) (call : Call) → SaysQueue head call.script call.out WriteFault → WriteFailed call.out
+queue_stopped head call says = elim says.stops [
+  | inl front ↦ (
+      let a = front.acts in
+      let part : List ℕ = take a.front a.last in
+      let given : List Event = all_given a.texts in
+      failed_since call.out.before call.out.after (given ++ moved part ∷ []) (a.given ∙ ap (λ (xs : List Event). call.out.before ++ xs) (sym (append_assoc given (moved part ∷ []) (failed ∷ []))))
+      )
+  | inr all ↦ unflushed call.out.before all.0 call.out.after (all_given (texts_of all.1.acts.acts)) all.1.acts.given all.2
+]
+
+queue_completes : (head : ImageHead) (call : Call) (status : Status) → SaysQueue head call.script call.out status → HasScript call → NoneFailed call → (status ≡ Done) ⊎ (status ≡ OutOfMemory)
+queue_completes head call Done says script none = inl refl
+queue_completes head call OutOfMemory says script none = inr refl
+queue_completes head call BadScript says script none = absurd (never_refused call script says)
+queue_completes head call ReadFault says script none = absurd (none.no_script_fault says.0)
+queue_completes head call WriteFault says script none = absurd (none.no_out_fault (queue_stopped head call says))
+queue_completes head call BadWords says script none = absurd says
+queue_completes head call BadImage says script none = absurd says
+queue_completes head call Unsound says script none = absurd says
+
 pub completes : (command : Command) (call : Call) (status : Status) → SaysOf command call status → IsComplete command call status
 completes (Replay head) call status says asked none = replay_completes head call status says.0 asked none
 completes Run call status says asked none = run_completes call status says.0 asked.0 asked.1 none
 completes (Format head) call status says asked none = format_completes head call status says.0 none
 completes Upgrade call status says asked none = upgrade_completes call status says.0 asked none
 completes (Make seed count head) call status says asked none = make_completes head seed count call status says none
-completes (Queue head) call status says asked none = absurd asked
 completes Audit call status says asked none = audit_completes call status says.0 asked none
 completes (Worn head reserve bad) call status says asked none = play_completes _ _ (numbers_named head) call status says.0 asked none
 completes (Pair head) call status says asked none = play_completes _ _ (numbers_named head) call status says.0 asked none
+completes (Queue head) call status says asked none = queue_completes head call status says.0 asked none
+

@@ -12,9 +12,14 @@ pub mod Sessions
 pub mod PlayedSteps
 pub mod AnsweredKept
 pub mod Answered
+pub mod ServedSteps
 pub mod Fields
 pub mod Exchanges
 pub mod Runs
+pub mod QueueActs
+pub mod QueueTags
+pub mod QueueLaws
+pub mod QueueReads
 pub mod Errors
 pub mod ReadScript
 pub mod ReadImage
@@ -23,6 +28,7 @@ pub mod BlankCells
 pub mod HeadLimits
 pub mod DieStart
 pub mod BlankStart
+pub mod QueueRuns
 pub mod Calm
 pub mod Headline
 pub mod SavedErases

@@ -27,7 +27,7 @@ use Rattle.rssd_run.specs.Statuses.{Input, Output}
 use Rattle.rssd_run.specs.Top.{HasLines, SaysPlay}
 use Rattle.rssd_run.specs.PlayRuns.{IsPlaying, IsPlay, PlayOf, PlayCutOff, PlaysFrom, PlaysFrontFrom, EndsPlay}
 use Rattle.rssd_run.specs.declared.status.Status.{Status}
-use Rattle.rssd_run.specs.declared.status.Status.TheVariants.{Done, BadWords, BadScript, BadImage, ReadFault, WriteFault, OutOfMemory}
+use Rattle.rssd_run.specs.declared.status.Status.TheVariants.{Done, BadWords, BadScript, BadImage, ReadFault, WriteFault, OutOfMemory, Unsound}
 use Rattle.rssd_run.proofs.Runs.{lines_more, pieces_more}
 
 play_none : (d : Numbers) (view : View) → IsPlay d view [] view
@@ -154,6 +154,7 @@ ends_more S T P Q d lines out BadWords starts each ends = absurd ends
 ends_more S T P Q d lines out BadScript starts each ends = absurd ends
 ends_more S T P Q d lines out BadImage starts each ends = absurd ends
 ends_more S T P Q d lines out ReadFault starts each ends = absurd ends
+ends_more S T P Q d lines out Unsound starts each ends = absurd ends
 
 -- a play of all lines of a script says what its status says
 pub says_play : (S : View → Type 0) (P : Event → Type 0) (d : Numbers) (script : Input) (out : Output) (lines : List Line) → HasLines script lines → All IsPlayed lines → (status : Status) → EndsPlay S P d lines out status

@@ -1,5 +1,5 @@
 -- What moves nothing but the die's counts and armed failures.
-use Rattle.std.proofs.Common.{◌≡◌, ◌⊎◌, inl, inr, ℕ, ◌^◌, ◌≤◌, ◌<◌, List, [], Option, None, Some, true, IsSomeAnd, refl, arith, sym, subst, ◌∙◌}
+use Rattle.std.proofs.Common.{◌≡◌, ◌⊎◌, inl, inr, ℕ, ◌+◌, ◌^◌, ◌≤◌, ◌<◌, List, [], Option, None, Some, true, IsSomeAnd, refl, arith, sym, subst, ◌∙◌}
 use Rattle.std.specs.Option.{option_map}
 use Rattle.cell_die.specs.declared.shape.Torn.{Torn}
 use Rattle.cell_die.specs.DieState.{DieState, Failures}

@@ -10,6 +10,10 @@ pub mod Run
 pub mod Held
 pub mod Steps
 pub mod Shows
+pub mod Serves
+pub mod QueueActs
+pub mod QueueRuns
+pub mod QueueLaws
 pub mod Played
 pub mod Exchanges
 pub mod ReadScript

@@ -9,7 +9,7 @@ use Rattle.die_image.specs.declared.head.ImageHead.{ImageHead}
 use Rattle.die_image.specs.Image.{shape_of, die_bytes, image_read}
 use Rattle.image_audit.specs.declared.verdict.Verdict.TheVariants.{Sound}
 use Rattle.rssd_words.specs.declared.command.Command.{Command}
-use Rattle.rssd_words.specs.declared.command.Command.TheVariants.{Replay, Run, Format, Upgrade, Make, Audit, Worn, Pair}
+use Rattle.rssd_words.specs.declared.command.Command.TheVariants.{Replay, Run, Format, Upgrade, Make, Audit, Worn, Pair, Queue}
 use Rattle.rssd_words.specs.Commands.{words_of, IsWithin}
 use Rattle.rssd_io.specs.Event.{Event, flushed, failed}
 use Rattle.rssd_script.specs.declared.lines.Line.{Line}
@@ -29,6 +29,7 @@ use Rattle.rssd_core.specs.DeviceValue.{Numbers}
 use Rattle.rssd_run.specs.View.{View, Event as Step}
 use Rattle.rssd_run.specs.Played.{IsPlayed}
 use Rattle.rssd_run.specs.PlayRuns.{FirstUnplayed, EndsPlay, IsWornStart, IsWornStep, IsPairStart, NeverStops}
+use Rattle.rssd_run.specs.QueueRuns.{Queues, QueuesFront}
 use Rattle.rssd_run.specs.ImageRuns.{HasCells, RunsImage, RunsImageFront, IsFull}
 
 -- the words spell this command, whose numbers are within its limits
@@ -75,6 +76,35 @@ SaysReplay head script out ReadFault = ReadFailed script × TookNothing out
 SaysReplay head script out WriteFault = IsReplayCutOff head script out
 SaysReplay head script out OutOfMemory = TookNothing out
 SaysReplay head script out status = ⊥
+
+-- ---- `queue`
+
+-- `out` took the text of each reply with its tag in one piece, and then handed them on
+pub record IsQueued (head : ImageHead) (script : Input) (out : Output) : Type 0 where
+  pub lines : List Line
+  pub is_script : HasLines script lines
+  pub given : List Event
+  pub queues : Queues head lines out.before given
+  pub handed_on : out.after ≡ given ++ flushed ∷ []
+
+-- `out` failed: at the piece of some reply, after those before it; or at handing on, after all
+abbrev pub StopsQueue : ImageHead → List Line → Output → Type 0
+StopsQueue head lines out = QueuesFront head lines out.before out.after
+    ⊎ ((given : List Event) × Queues head lines out.before given × (out.after ≡ given ++ failed ∷ []))
+
+pub record IsQueueCutOff (head : ImageHead) (script : Input) (out : Output) : Type 0 where
+  pub lines : List Line
+  pub is_script : HasLines script lines
+  pub stops : StopsQueue head lines out
+
+-- what each status says of a queue run
+abbrev pub SaysQueue : ImageHead → Input → Output → Status → Type 0
+SaysQueue head script out Done = IsQueued head script out
+SaysQueue head script out BadScript = IsRefused script out
+SaysQueue head script out ReadFault = ReadFailed script × TookNothing out
+SaysQueue head script out WriteFault = IsQueueCutOff head script out
+SaysQueue head script out OutOfMemory = TookNothing out
+SaysQueue head script out status = ⊥
 
 -- ---- `run`
 
@@ -211,7 +241,9 @@ SaysAudit image out WriteFault = IsAuditCutOff image out
 SaysAudit image out OutOfMemory = TookNothing out
 SaysAudit image out Unsound = IsUnsound image out
 SaysAudit image out status = ⊥
+
 -- ---- `worn` and `pair`
+
 -- every line is in the grammar, some line is not played, and `out` took the line that says which is the first
 pub record HasUnplayed (script : Input) (out : Output) : Type 0 where
   pub lines : List Line
@@ -219,10 +251,14 @@ pub record HasUnplayed (script : Input) (out : Output) : Type 0 where
   pub k : ℕ
   pub first : FirstUnplayed lines k
   pub line : GaveLine out (bad_line k)
+
 -- all of the script was taken, each of its lines is played, and the play ended so
 pub record PlaysScript (Start : View → Type 0) (P : Step → Type 0) (d : Numbers) (script : Input) (out : Output) (status : Status) : Type 0 where
+  pub lines : List Line
+  pub is_script : HasLines script lines
   pub played : All IsPlayed lines
   pub ends : EndsPlay Start P d lines out status
+
 -- what each status says of a play
 abbrev pub SaysPlay : (View → Type 0) → (Step → Type 0) → Numbers → Input → Output → Status → Type 0
 SaysPlay Start P d script out Done = PlaysScript Start P d script out Done
@@ -231,8 +267,10 @@ SaysPlay Start P d script out ReadFault = ReadFailed script × TookNothing out
 SaysPlay Start P d script out WriteFault = PlaysScript Start P d script out WriteFault
 SaysPlay Start P d script out OutOfMemory = TookNothing out
 SaysPlay Start P d script out status = ⊥
+
 abbrev pub SaysWorn : ImageHead → ℕ → ℕ → Input → Output → Status → Type 0
 SaysWorn head reserve bad script out status = SaysPlay (IsWornStart head reserve bad) (IsWornStep head reserve bad) (numbers_named head) script out status
+
 abbrev pub SaysPair : ImageHead → Input → Output → Status → Type 0
 SaysPair head script out status = SaysPlay (IsPairStart head) NeverStops (numbers_named head) script out status
 
@@ -242,7 +280,7 @@ SaysPair head script out status = SaysPlay (IsPairStart head) NeverStops (number
 abbrev pub AreBad : Call → Status → Type 0
 AreBad call status = (status ≡ BadWords) × GaveLine call.out bad_words
 
--- what a status says where the words spell this command; the other commands are not known yet, and their words are bad
+-- what a status says where the words spell this command
 abbrev pub SaysOf : Command → Call → Status → Type 0
 SaysOf (Replay head) call status = SaysReplay head call.script call.out status × TakesScript call.script.before call.script.after
 SaysOf Run call status = SaysRun call.image call.script call.out call.image_out status × TakesScript call.script.before call.script.after × TakesImage false call.image.before call.image.after
@@ -252,7 +290,7 @@ SaysOf Upgrade call status = SaysUpgrade call.image call.out call.image_out stat
 SaysOf Audit call status = SaysAudit call.image call.out status × TakesImage false call.image.before call.image.after
 SaysOf (Worn head reserve bad) call status = SaysWorn head reserve bad call.script call.out status × TakesScript call.script.before call.script.after
 SaysOf (Pair head) call status = SaysPair head call.script call.out status × TakesScript call.script.before call.script.after
-SaysOf command call status = AreBad call status
+SaysOf (Queue head) call status = SaysQueue head call.script call.out status × TakesScript call.script.before call.script.after
 
 -- no source and no sink failed
 pub record NoneFailed (call : Call) : Type 0 where
@@ -303,7 +341,7 @@ IsAsked Upgrade call = HasOldImage call
 IsAsked Audit call = HasSoundImage call
 IsAsked (Worn head reserve bad) call = HasPlayed call
 IsAsked (Pair head) call = HasPlayed call
-IsAsked command call = ⊥
+IsAsked (Queue head) call = HasScript call
 
 -- then the status is 0, or 7
 abbrev pub IsComplete : Command → Call → Status → Type 0
@@ -321,6 +359,7 @@ LeavesScript (Replay head) = ⊥
 LeavesScript Run = ⊥
 LeavesScript (Worn head reserve bad) = ⊥
 LeavesScript (Pair head) = ⊥
+LeavesScript (Queue head) = ⊥
 LeavesScript command = Unit {0}
 
 abbrev pub LeavesImage : Command → Type 0

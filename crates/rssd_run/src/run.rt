@@ -1,10 +1,11 @@
 //! Scripts on a device whose power may be cut, over the device's contract.
-ghost use Rattle.std.specs.Prelude.{OnOk, OnErr};
+ghost use Rattle.std.specs.Prelude.{◌≡◌, [], OnOk, OnErr, IfSome, IfNone};
 ghost use Rattle.std.specs.List.{All};
 ghost use Rattle.rssd_core.specs.DeviceValue.{Numbers};
 ghost use Rattle.rssd_io.specs.Event.{Grows, HasFailed};
 ghost use Rattle.rssd_run.specs.Exchanges.{AnswersSession, AnswersAll, AnswersFront};
 ghost use Rattle.rssd_run.specs.Run.{RunsSession, CutsOffSession};
+ghost use Rattle.rssd_run.specs.Serves.{IsQueueOf, ServesSession, is_running};
 ghost use Rattle.rssd_run.specs.Shows.{SessionValue, CanStep, HasNumbers, KeepsSession, StepsSession};
 
 pub mod audit_run;
@@ -15,16 +16,20 @@ pub mod make_run;
 pub mod on_die;
 pub mod play_run;
 pub mod playing;
+pub mod queue_lines;
+pub mod queue_run;
 pub mod replay;
 pub mod reuse;
 pub mod schemes;
 pub mod script;
+pub mod served;
 pub mod session;
 pub mod top;
 pub mod upgrade;
 pub mod workload;
 
 use rssd_io::{Sink, WriteFault};
+use rssd_queue::Queue;
 use rssd_script::{Line, Reply, ReplyText};
 use std::alloc::Global;
 
@@ -39,6 +44,24 @@ pub trait Stepping {
         ensures numbers { (d : Numbers) → HasNumbers d (session self.old).holding → HasNumbers d (session self.new).holding }
         ensures step { (d : Numbers) → HasNumbers d (session self.old).holding → StepsSession d line.now result (session self.old) (session self.new) }
         ensures answers { (d : Numbers) → HasNumbers d (session self.old).holding → AnswersSession d line.now result (session self.old) (session self.new) };
+}
+
+/// What a session is to those that serve the commands of a queue on it.
+pub trait Serving: Stepping {
+    /// Whether the device runs.
+    fn is_on(&self) -> bool
+        ensures { result ≡ is_running (Self.session self.now).holding };
+
+    /// Takes the next command out of a queue, carries it out, and answers with its tag. None is answered exactly where nothing
+    /// waits.
+    fn serve(&mut self, queue: &mut Queue) -> Option<(u32, Reply)>
+        requires { IsQueueOf queue.old (Self.session self.old).holding }
+        ensures none { IfNone result (queue.old.commands ≡ []) }
+        ensures same { IfNone result (queue.new ≡ queue.old) }
+        ensures same_session { IfNone result (Self.session self.new ≡ Self.session self.old) }
+        ensures numbers { (d : Numbers) → HasNumbers d (Self.session self.old).holding → HasNumbers d (Self.session self.new).holding }
+        ensures served { IfSome result (λ told. (d : Numbers) → HasNumbers d (Self.session self.old).holding
+            → ServesSession d told.0 told.1 queue.old queue.new (Self.session self.old) (Self.session self.new)) };
 }
 
 /// Steps the lines in order, and gives each reply with its line feed to `out` in one piece.

@@ -26,3 +26,7 @@ reply_text NoMemory = codes "no memory"
 -- what is given to the output for a reply
 abbrev pub reply_line : Reply → List ℕ
 reply_line reply = reply_text reply ++ 10 ∷ []
+
+-- the same behind a tag and a space
+abbrev pub tagged_line : ℕ → Reply → List ℕ
+tagged_line tag reply = decimal tag ++ 32 ∷ reply_line reply

@@ -3,7 +3,7 @@
 ghost use Rattle.std.specs.Prelude.{◌≡◌, ℕ, ◌+◌, ◌*◌, ◌<◌, ◌≤◌, [], ◌∷◌, ◌++◌, length, IfOk, decimal};
 ghost use Rattle.rssd_script.specs.Text.{hex_of, hex_or_dash};
 ghost use Rattle.rssd_script.specs.Script.{IsWithinGrammar, line_text, torn_text};
-ghost use Rattle.rssd_script.specs.Replies.{reply_text, reply_line};
+ghost use Rattle.rssd_script.specs.Replies.{reply_text, reply_line, tagged_line};
 
 use crate::{Line, OutOfMemory, Reply, ReplyText, TornWord};
 use arrayvec::ArrayVec;
@@ -141,7 +141,7 @@ pub fn print_line(alloc: Global, line: &Line) -> Result<Vec<u8>, OutOfMemory>
 fn put_counts(text: &mut TextRoom, first: u64, second: u64, declined: u64, moved: u64, erased: u64)
     requires { text.old.items ≡ [] }
     ensures items { text.new.items ≡ reply_text (Reply.Stat first second declined moved erased) }
-    ensures len { length text.new.items ≤ 1080 }
+    ensures len { length text.new.items ≤ 1060 }
 {
     put(text, b"first ");
     put_number(text, first);
@@ -159,7 +159,7 @@ fn put_counts(text: &mut TextRoom, first: u64, second: u64, declined: u64, moved
 fn put_reply(text: &mut TextRoom, reply: &Reply)
     requires { text.old.items ≡ [] }
     ensures items { text.new.items ≡ reply_text reply.now }
-    ensures len { length text.new.items ≤ 1080 }
+    ensures len { length text.new.items ≤ 1060 }
 {
     match reply {
         Reply::First => put(text, b"first"),
@@ -201,4 +201,18 @@ pub fn print_reply(reply: &Reply) -> ReplyText
     let mut text = ReplyText::new();
     text.set(reply);
     text
+}
+
+/// A reply's text behind a tag and a space, with its line feed.
+pub fn print_tagged(tag: u32, reply: &Reply) -> ReplyText
+    ensures { result ≡ tagged_line tag reply.now }
+{
+    let mut room = ArrayVec::new();
+    put_reply(&mut room, reply);
+    let mut text = ArrayVec::new();
+    put_number(&mut text, u64::from(tag));
+    put(&mut text, b" ");
+    put(&mut text, &room);
+    put(&mut text, b"\n");
+    ReplyText::from_bytes(text)
 }

@@ -1,19 +1,22 @@
 //! A session: a device on a die whose power may be cut, and the lines that are run on it. It is on while the device runs, and off
 //! after a failed change call or a mount that was refused, until a mount. From each view that it stands for, a line with its
 //! reply is a step to one that it stands for afterwards. Only the line `mount` takes memory.
-ghost use Rattle.std.specs.Prelude.{◌≡◌, None, Some, IsSome, IfSome, IfNone, IfOk, IfErr, ◌↔◌, OnOk};
+ghost use Rattle.std.specs.Prelude.{◌≡◌, [], None, Some, IsSome, IfSome, IfNone, IfOk, IfErr, ◌↔◌, OnOk};
 ghost use Rattle.page_codec.specs.Geometry.{shape_of};
 ghost use Rattle.rssd_core.specs.DeviceValue.{Numbers};
 ghost use Rattle.rssd_core.specs.Failures.{TellsPower};
 ghost use Rattle.rssd_core.specs.Mount.{numbers_of, Fits, Refuses};
 ghost use Rattle.rssd_run.specs.Exchanges.{AnswersSession};
 ghost use Rattle.rssd_run.specs.Held.{added_tallies, tallies_of};
+ghost use Rattle.rssd_run.specs.Serves.{IsQueueOf, ServesSession, is_running};
 ghost use Rattle.rssd_run.specs.Shows.{CanStep, IsDeviceLine, HasNumbers, HasDie, StepsSession, Starts, session_of, tallies};
 
-use crate::run::Stepping;
+use crate::run::{Serving, Stepping};
 use crate::run::line::{answer_line, mount_again, refusal_reply};
+use crate::run::served::{serve_off, serve_on};
 use cell_die::PowerDie;
 use rssd_core::device::{Counts, MountError, Plan, PowerDevice, Refused};
+use rssd_queue::Queue;
 use rssd_script::{Line, Reply};
 use std::alloc::Global;
 use std::marker::Model;
@@ -132,6 +135,36 @@ impl<D: PowerDie + Drop, C: Scheme + Drop, F: PowerDevice<D, C>> Session<D, C, F
         answer_line(ftl, line)
     }
 
+    /// Whether the device runs.
+    pub fn is_on(&self) -> bool
+        ensures { result ≡ is_running (session_of D.state C.meaning F.device self.now).holding }
+    {
+        match &self.mounted {
+            Some(ftl) => !ftl.stopped(),
+            None => false,
+        }
+    }
+
+    /// Takes the next command out of a queue, carries it out, and answers with its tag: with the answer of the device where it
+    /// runs, and else with `off`. None is answered exactly where nothing waits.
+    pub fn serve(&mut self, queue: &mut Queue) -> Option<(u32, Reply)>
+        requires { IsQueueOf queue.old (session_of D.state C.meaning F.device self.old).holding }
+        ensures none { IfNone result (queue.old.commands ≡ []) }
+        ensures same { IfNone result (queue.new ≡ queue.old) }
+        ensures same_session { IfNone result (session_of D.state C.meaning F.device self.new ≡ session_of D.state C.meaning F.device self.old) }
+        ensures numbers { (d : Numbers) → HasNumbers d (session_of D.state C.meaning F.device self.old).holding → HasNumbers d (session_of D.state C.meaning F.device self.new).holding }
+        ensures served { IfSome result (λ told. (d : Numbers) → HasNumbers d (session_of D.state C.meaning F.device self.old).holding
+            → ServesSession d told.0 told.1 queue.old queue.new (session_of D.state C.meaning F.device self.old) (session_of D.state C.meaning F.device self.new)) }
+    {
+        let Some(ftl) = &mut self.mounted else {
+            return serve_off(queue);
+        };
+        if ftl.stopped() {
+            return serve_off(queue);
+        }
+        serve_on(ftl, queue)
+    }
+
     /// Answers `stat`: the session's tallies, and the sum of the die's erase counts.
     fn stat(&self) -> Reply
         ensures step { (d : Numbers) → HasNumbers d (session_of D.state C.meaning F.device self.now).holding
@@ -196,5 +229,15 @@ impl<D: PowerDie + Drop, C: Scheme + Drop, F: PowerDevice<D, C>> Stepping for Se
             Line::Stat => self.stat(),
             line => self.answer(line),
         }
+    }
+}
+
+impl<D: PowerDie + Drop, C: Scheme + Drop, F: PowerDevice<D, C>> Serving for Session<D, C, F> {
+    fn is_on(&self) -> bool {
+        Session::is_on(self)
+    }
+
+    fn serve(&mut self, queue: &mut Queue) -> Option<(u32, Reply)> {
+        Session::serve(self, queue)
     }
 }

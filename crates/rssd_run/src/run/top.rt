@@ -1,5 +1,5 @@
 //! The top call: words and input to output and a status. It knows the commands `replay`, `run`, `format`, `make`, `upgrade`,
-//! `worn`, `pair` and `audit`; any other words are bad.
+//! `queue`, `worn`, `pair` and `audit`; any other words are bad.
 ghost use Rattle.std.specs.Prelude.{◌≡◌, ℕ, List, map, string_bytes, true, false};
 ghost use Rattle.die_image.specs.Image.{is_within_limits};
 ghost use Rattle.rssd_run.specs.declared.status.Status.{Status as How};
@@ -16,6 +16,7 @@ use crate::run::image_run::{blank_cells, cells_of, run_image};
 use crate::run::make_run::answer_make;
 use crate::run::on_die::RunError;
 use crate::run::play_run::{answer_pair, answer_worn};
+use crate::run::queue_run::answer_queue;
 use crate::run::replay::replay;
 use crate::run::script::{ReadError, read_script};
 use crate::run::workload::Seeded;
@@ -170,7 +171,7 @@ fn answer_command<I: Source, T: Source, O: Sink, G: Sink>(
             answer_worn(alloc, head, *reserve, *bad, script, out)
         }
         Command::Pair(head) => answer_pair(alloc, head, script, out),
-        _ => refuse_words(out),
+        Command::Queue(head) => answer_queue(alloc, head, script, out),
     }
 }
 
@@ -216,9 +217,10 @@ fn answer<I: Source, T: Source, O: Sink, G: Sink>(
 ///   `failread`, `mount` and `stat` are bad lines here. It plays the lines on a blank die with RESERVE reserve blocks, each BAD-th
 ///   erase of which makes its block bad, and gives the replies to `out`.
 /// - `pair SCHEME BLOCKS PAGES SECTORS REUSE` does the same on two blank dies of half the blocks each, as one.
+/// - `queue SCHEME BLOCKS PAGES SECTORS REUSE` is `replay` with a queue before the device: each reply stands behind the number of
+///   its line, and reads overtake writes of other sectors.
 ///
-/// The other commands are not known yet: their words are bad. A source that the command does not read, and a sink that it does
-/// not write, are as before the call.
+/// Any other words are bad. A source that the command does not read, and a sink that it does not write, are as before the call.
 ///
 /// The status is 0 where all input was read to its end and all output was given and handed on; 2 where the words are no command; 3 where the
 /// script is refused; 4 where the image is, or each of its blocks has a live record; 5 where a source failed; 6 where a sink

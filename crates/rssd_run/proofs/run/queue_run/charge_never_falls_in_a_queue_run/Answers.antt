@@ -1,0 +1,12 @@
+-- A queue run is a run of the session, whose die keeps its shape.
+use Rattle.std.proofs.Common.{[], ◌+◌, length}
+use Rattle.rssd_run.specs.Heads.{numbers_named}
+use Rattle.rssd_run.specs.QueueActs.{place, steps_of}
+use Rattle.rssd_run.specs.QueueRuns.{first_place}
+use Rattle.rssd_run.proofs.Headline.{charge_never_falls}
+use Rattle.rssd_run.proofs.QueueActs.{steps_run}
+use Rattle.rssd_run.proofs.run.queue_run.charge_never_falls_in_a_queue_run.Goals as goal
+
+pub returns : goal.returns
+returns c = λ head lines log after given. charge_never_falls (numbers_named head) given.before (steps_of given.acts.acts) given.after
+    (steps_run (numbers_named head) given.acts.acts (first_place head lines) (place [] (length lines + 1) given.queue) given.before given.after given.acts.run)
