@@ -67,7 +67,8 @@ pub found_sound : (head : ImageHead) (cells : List ℕ) → IsSound (geometry_of
 found_sound head cells sound = λ found told audit. audit.sound.1 sound
 
 -- two audits of what was taken agree
-pub found_again : {found : Verdict} {told others : List (ℕ × List ℕ)} (image : Input) → IsRead image found told → (head : ImageHead) (cells : List ℕ) → image_read false (taken image) ≡ Ok (head, cells) → IsAuditOf head cells Sound others → found ≡ Sound
+pub found_again : {found : Verdict} {told others : List (ℕ × List ℕ)} (image : Input) → IsRead image found told
+    → (head : ImageHead) (cells : List ℕ) → image_read false (taken image) ≡ Ok (head, cells) → IsAuditOf head cells Sound others → found ≡ Sound
 found_again {found} {told} {others} image read head cells is audit =
     let here = read.is_image.reads in
     let same : ◌≡◌ {A = ImageHead × List ℕ} (read.head, read.cells) (head, cells) = cc in
@@ -113,7 +114,8 @@ blank_found_sound head within =
 
 -- ---- a run of lines
 
-pub run_sound : (d : Numbers) (before : View) (events : List Event) (after : View) → IsRun d before events after → IsSound d.geometry before.device.die.cells → IsSound d.geometry after.device.die.cells
+pub run_sound : (d : Numbers) (before : View) (events : List Event) (after : View) → IsRun d before events after
+    → IsSound d.geometry before.device.die.cells → IsSound d.geometry after.device.die.cells
 unfolding IsRun
 run_sound d before [] after run sound = subst (λ (v : View). IsSound d.geometry v.device.die.cells) (sym run) sound
 run_sound d before (e ∷ events) after run sound = run_sound d e.after events after run.2 (run.1.keeps.sound (subst (λ (v : View). IsSound d.geometry v.device.die.cells) (sym run.0) sound))
