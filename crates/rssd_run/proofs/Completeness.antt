@@ -1,9 +1,9 @@
 -- Where all that a command took is in its grammar and no call of a source or sink failed, only two statuses are left.
-use Rattle.std.proofs.Common.{◌≡◌, ◌⊎◌, inl, inr, ℕ, ◌-◌, List, [], ◌∷◌, ◌++◌, All, take, get_or, true, refl, sym, ap, arith, subst, ◌∙◌, append_assoc}
-use Rattle.rssd_io.specs.Event.{Event, HasFailed, moved, failed}
-use Rattle.rssd_io.specs.Pieces.{all_given, StopsIn}
+use Rattle.std.proofs.Common.{◌≡◌, ◌⊎◌, inl, inr, ℕ, ◌-◌, List, [], ◌∷◌, ◌++◌, All, take, true, refl, sym, ap, arith, subst, ◌∙◌, append_assoc}
+use Rattle.rssd_io.specs.Event.{Event, moved, failed}
+use Rattle.rssd_io.specs.Pieces.{all_given}
 use Rattle.rssd_io.proofs.Logs.{failed_since}
-use Rattle.rssd_script.proofs.Unique.{no_bad, one_script}
+use Rattle.rssd_script.proofs.Unique.{one_script}
 use Rattle.rssd_script.specs.Replies.{reply_line}
 use Rattle.die_image.specs.declared.head.ImageHead.{ImageHead}
 use Rattle.rssd_words.specs.declared.command.Command.{Command}
@@ -15,7 +15,7 @@ use Rattle.rssd_run.specs.ImageRuns.{IsFull}
 use Rattle.rssd_run.specs.Run.{pieces_of}
 use Rattle.rssd_run.specs.MakeRuns.{SaysMake}
 use Rattle.rssd_run.proofs.CallStops.{stopped, unflushed, never_refused}
-use Rattle.rssd_run.specs.Top.{SaysOf, SaysReplay, SaysRun, SaysFormat, SaysUpgrade, IsRunCutOff, IsRefused, IsBadImage, IsNoImage, HasScript, HasPlayed, HasImage, HasOldImage, NoneFailed, IsComplete, PlaysScript, HasUnplayed, SaysPlay}
+use Rattle.rssd_run.specs.Top.{SaysOf, SaysReplay, SaysRun, SaysFormat, SaysUpgrade, IsRunCutOff, IsBadImage, IsNoImage, HasScript, HasPlayed, HasImage, HasOldImage, NoneFailed, IsComplete, PlaysScript, HasUnplayed, SaysPlay}
 use Rattle.rssd_core.specs.DeviceValue.{Numbers}
 use Rattle.rssd_script.specs.declared.lines.Line.{Line}
 use Rattle.rssd_script.specs.declared.lines.Line.TheVariants.{Mount}

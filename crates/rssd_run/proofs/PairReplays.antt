@@ -1,20 +1,18 @@
 -- A play of two dies as one is a replay: nothing is armed there, so that each of its steps is a step of a session.
-use Rattle.std.proofs.Common.{◌≡◌, ◌⊎◌, inl, inr, ℕ, ◌+◌, ◌-◌, ◌%◌, ◌<◌, ◌≤◌, true, List, [], ◌∷◌, ◌++◌, Option, None, Some, refl, sym, subst, arith}
+use Rattle.std.proofs.Common.{◌≡◌, inl, inr, ℕ, ◌%◌, true, List, [], ◌∷◌, ◌++◌, Option, None, Some, refl, sym, subst, arith}
 use Rattle.std.specs.Prelude.{IsSomeAnd}
 use Rattle.cell_die.specs.DieState.{DieState, Failures}
 use Rattle.cell_die.specs.Calls.{IsQuiet}
 use Rattle.cell_die.proofs.Quiet.{quiet_stays}
 use Rattle.die_image.specs.declared.head.ImageHead.{ImageHead}
 use Rattle.die_image.specs.Image.{shape_of}
-use Rattle.mem_die.specs.MemState.{IsNew}
 use Rattle.rssd_script.specs.declared.lines.Line.{Line}
 use Rattle.rssd_script.specs.declared.lines.Line.TheVariants.{Write, Read, Trim, Idle, Cut, FailRead, Mount, Stat}
 use Rattle.rssd_script.specs.declared.replies.Reply.{Reply}
 use Rattle.rssd_script.specs.declared.replies.Reply.TheVariants.{Stat as Counts, Fault, NoSpare}
 use Rattle.rssd_core.specs.SectorArray.{filled_up}
 use Rattle.rssd_core.specs.DeviceValue.{Numbers, DeviceView}
-use Rattle.rssd_core.specs.Failures.{cut_of, cut_in, read_failure_of, read_in, Lowers, TellsPower}
-use Rattle.rssd_core.specs.Mount.{Mounts}
+use Rattle.rssd_core.specs.Failures.{cut_in, read_in, Lowers}
 use Rattle.rssd_io.specs.Event.{Event as Act}
 use Rattle.rssd_run.specs.ArrayWithCuts.{ArrayState, On, Off, Row}
 use Rattle.rssd_run.specs.View.{View, Event, NoFailure}
@@ -156,7 +154,7 @@ quiet_step d e playing quiet =
         idle = s.idle;
         no_spare = record {
           only = λ said. absurd (no_spare_row d.geometry.sector_bytes e.before.array e.line e.after.array playing.played
-          (subst (λ (reply : Reply). Row d.geometry.sector_bytes e.before.array e.line reply e.after.array) said s.row));
+              (subst (λ (reply : Reply). Row d.geometry.sector_bytes e.before.array e.line reply e.after.array) said s.row));
           always = λ mount. absurd (subst IsPlayed mount playing.played);
         };
         stays = s.stays;
