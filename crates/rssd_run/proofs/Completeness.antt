@@ -3,7 +3,7 @@ use Rattle.std.proofs.Common.{◌≡◌, ◌⊎◌, inl, inr, ℕ, List, [], ◌
 use Rattle.rssd_io.specs.Event.{Event, moved, failed, HasFailed}
 use Rattle.rssd_io.specs.Pieces.{all_given, StopsIn}
 use Rattle.rssd_io.proofs.Logs.{failed_since}
-use Rattle.rssd_script.proofs.Unique.{no_bad, one_script}
+use Rattle.rssd_script.proofs.Unique.{one_script}
 use Rattle.rssd_script.specs.Replies.{reply_line}
 use Rattle.die_image.specs.declared.head.ImageHead.{ImageHead}
 use Rattle.rssd_words.specs.declared.command.Command.{Command}

@@ -47,4 +47,5 @@ pub mod PlayStart
 pub mod PairPlays
 pub mod WornPlays
 pub mod PlayLaws
+pub mod PairReplays
 pub mod CallStops

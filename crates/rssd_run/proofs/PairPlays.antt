@@ -1,5 +1,5 @@
 -- Two blank dies as one are a blank die with power and nothing armed, so that no line of a play fails on them.
-use Rattle.std.proofs.Common.{◌≡◌, ℕ, zero, suc, ◌+◌, ◌*◌, ◌/◌, ◌%◌, ◌<◌, ◌==◌, ◌&&◌, Bool, true, false, List, [], ◌∷◌, All, length, map, replicate, slice_index, get_or, Option, None, Some, refl, sym, ap, ap₂, ◌∙◌, arith, subst, if◌then◌else◌}
+use Rattle.std.proofs.Common.{◌≡◌, ℕ, zero, suc, ◌*◌, ◌/◌, ◌%◌, ◌<◌, ◌==◌, ◌&&◌, true, List, [], ◌∷◌, All, length, map, replicate, slice_index, get_or, Option, None, Some, refl, sym, ap, ap₂, ◌∙◌, arith, subst, if◌then◌else◌}
 use Rattle.std.specs.Prelude.{IsSomeAnd}
 use Rattle.std.specs.List.{AllByRecursion, range_with_len}
 use Rattle.std.proofs.lemmas.List.Elements.{All-from_recursion}
@@ -7,13 +7,13 @@ use Rattle.std.proofs.lemmas.List.FromFn.{length-range_with_len}
 use Rattle.cell_die.specs.declared.shape.Shape.{Shape}
 use Rattle.cell_die.specs.Cells.{blank_page}
 use Rattle.cell_die.specs.Counts.{count_sum}
-use Rattle.cell_die.specs.DieState.{DieState, Failures, IsShaped, page_of, page_count, page_bytes, erases_of}
+use Rattle.cell_die.specs.DieState.{DieState, Failures, page_of, page_count, page_bytes, erases_of}
 use Rattle.cell_die.specs.Calls.{IsQuiet}
 use Rattle.cell_die.proofs.Quiet.{quiet_stays, quiet_read}
-use Rattle.mem_die.specs.MemState.{mem_state, mem_shaped, IsNew}
+use Rattle.mem_die.specs.MemState.{mem_state, mem_shaped}
 use Rattle.stripe_die.specs.declared.half.Half.{Half}
 use Rattle.stripe_die.specs.declared.half.Half.TheVariants.{First, Second}
-use Rattle.stripe_die.specs.Pair.{pair_state, pair_shape, pair_page, pair_count, pair_failures, is_idle, idle}
+use Rattle.stripe_die.specs.Pair.{pair_state, pair_shape, pair_count, pair_failures, is_idle, idle}
 use Rattle.stripe_die.specs.PairLaws.{page_of-pair, page_inside, number_at}
 use Rattle.stripe_die.specs.Places.{block_place, page_place, at_place}
 use Rattle.die_image.specs.declared.head.ImageHead.{ImageHead}

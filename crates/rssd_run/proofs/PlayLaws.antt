@@ -1,5 +1,5 @@
 -- Each step of a play keeps the headline.
-use Rattle.std.proofs.Common.{◌≡◌, ◌⊎◌, ℕ, zero, suc, ◌≤◌, All, List, [], ◌∷◌, refl, arith, subst, ◌∙◌}
+use Rattle.std.proofs.Common.{◌⊎◌, ℕ, zero, suc, ◌≤◌, All, List, [], ◌∷◌, arith, subst}
 use Rattle.std.specs.List.{AllByRecursion}
 use Rattle.std.proofs.lemmas.List.Elements.{All-from_recursion}
 use Rattle.rssd_script.specs.declared.lines.Line.{Line}
@@ -10,7 +10,7 @@ use Rattle.rssd_run.specs.Placing.{IsTried}
 use Rattle.rssd_run.specs.Step.{OutOfRange, TooLong, NumbersSpent}
 use Rattle.rssd_run.specs.Headline.{IsWritten, FaultsRose, view_at, ChargeNeverFalls}
 use Rattle.rssd_run.specs.Played.{IsPlayedStep}
-use Rattle.rssd_run.specs.PlayRuns.{IsPlaying, IsPlay, KeepsPlayHeadline}
+use Rattle.rssd_run.specs.PlayRuns.{IsPlay, KeepsPlayHeadline}
 use Rattle.rssd_run.proofs.Headline.{write_or, Charged, uncharged, charged_more}
 
 write_powered : (d : Numbers) (e : Event) → IsPlayedStep d e → (sector : ℕ) (bytes : List ℕ) → IsTried d e sector bytes → IsWritten e.reply ⊎ FaultsRose e

@@ -1,5 +1,5 @@
 -- A blank die of a head is mounted but for want of memory, and a play of it begins with zeros alone.
-use Rattle.std.proofs.Common.{◌≡◌, ℕ, ◌+◌, ◌*◌, ◌<◌, ◌≤◌, true, List, replicate, Some, refl, sym, ap, ◌∙◌, arith, subst}
+use Rattle.std.proofs.Common.{◌≡◌, ℕ, ◌+◌, ◌*◌, ◌<◌, true, List, replicate, Some, refl, sym, ap, ◌∙◌, arith, subst}
 use Rattle.cell_die.specs.DieState.{DieState, IsShaped, page_count as die_pages}
 use Rattle.striped.specs.Meaning.{Meaning}
 use Rattle.die_image.specs.declared.head.ImageHead.{ImageHead}
@@ -9,7 +9,7 @@ use Rattle.page_codec.specs.Sound.{IsSound}
 use Rattle.page_codec.specs.Sectors.{stored}
 use Rattle.rssd_core.specs.declared.device.MountError.{MountError}
 use Rattle.rssd_core.specs.declared.device.MountError.TheVariants.{OutOfMemory, Shape as BadShape, DieFault, NoSpare}
-use Rattle.rssd_core.specs.DeviceValue.{Numbers, DeviceView, DeviceValue, rows_of}
+use Rattle.rssd_core.specs.DeviceValue.{Numbers, DeviceValue, rows_of}
 use Rattle.rssd_core.specs.Mount.{Fits, Mounts, Refuses, MountFails, EveryBlockLive, numbers_of}
 use Rattle.rssd_run.specs.ArrayWithCuts.{On}
 use Rattle.rssd_run.specs.View.{View, Event}

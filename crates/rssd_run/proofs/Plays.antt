@@ -1,5 +1,5 @@
 -- Plays grow by one step at their end, and what holds of each step of one may be read off it.
-use Rattle.std.proofs.Common.{◌≡◌, ◌⊎◌, inl, inr, ℕ, ◌+◌, Bool, true, false, List, [], ◌∷◌, ◌++◌, All, length, take, suc, refl, sym, ap, subst, ◌∙◌, append_assoc}
+use Rattle.std.proofs.Common.{◌≡◌, inl, inr, ℕ, ◌+◌, Bool, true, false, List, [], ◌∷◌, ◌++◌, All, length, take, suc, refl, sym, ap, subst, ◌∙◌, append_assoc}
 use Rattle.std.proofs.lemmas.List.{append-nil}
 use Rattle.std.proofs.lemmas.List.Elements.{All-nil, All-push}
 use Rattle.cell_die.specs.DieState.{DieState}
@@ -13,19 +13,17 @@ use Rattle.rssd_io.specs.Pieces.{all_given}
 use Rattle.rssd_io.proofs.Logs.{given_append}
 use Rattle.rssd_script.specs.declared.lines.Line.{Line}
 use Rattle.rssd_script.specs.declared.replies.Reply.{Reply}
-use Rattle.rssd_script.specs.declared.replies.Reply.TheVariants.{Fault}
 use Rattle.rssd_script.specs.Replies.{reply_line}
-use Rattle.rssd_run.specs.ArrayWithCuts.{ArrayState, On}
+use Rattle.rssd_run.specs.ArrayWithCuts.{ArrayState}
 use Rattle.rssd_run.specs.View.{View, Event, IsOn}
-use Rattle.rssd_run.specs.Held.{Tallies, plus}
+use Rattle.rssd_run.specs.Held.{Tallies}
 use Rattle.rssd_run.specs.Steps.{ArrayIs}
 use Rattle.rssd_run.specs.Shows.{Mounted, ShowsHolding}
 use Rattle.rssd_run.specs.Run.{lines_of, pieces_of}
-use Rattle.rssd_run.specs.Step.{TrueWhileOn}
 use Rattle.rssd_run.specs.Played.{IsPlayed, IsPlayedStep, Plays, PlaysQuiet}
 use Rattle.rssd_run.specs.Statuses.{Input, Output}
 use Rattle.rssd_run.specs.Top.{HasLines, SaysPlay}
-use Rattle.rssd_run.specs.PlayRuns.{IsPlaying, IsPlay, PlayOf, PlayCutOff, PlaysFrom, PlaysFrontFrom, EndsPlay}
+use Rattle.rssd_run.specs.PlayRuns.{IsPlaying, IsPlay, PlayOf, PlayCutOff, EndsPlay}
 use Rattle.rssd_run.specs.declared.status.Status.{Status}
 use Rattle.rssd_run.specs.declared.status.Status.TheVariants.{Done, BadWords, BadScript, BadImage, ReadFault, WriteFault, OutOfMemory, Unsound}
 use Rattle.rssd_run.proofs.Runs.{lines_more, pieces_more}

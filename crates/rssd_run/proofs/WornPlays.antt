@@ -1,6 +1,6 @@
 -- A die with reserve blocks over a blank worn die is blank, its mount never fails, and a line of a play fails on it only where its
 -- reserve is used up.
-use Rattle.std.proofs.Common.{◌≡◌, ◌⊎◌, inl, inr, ℕ, zero, suc, ◌+◌, ◌-◌, ◌*◌, ◌/◌, ◌^◌, ◌<◌, ◌≤◌, min, ◌&&◌, ◌==◌, Bool, true, false, cond, not, List, [], ◌∷◌, All, length, replicate, get_or, count_by, refl, sym, ap, ap₂, ◌∙◌, arith, subst, lit≤, if◌then◌else◌}
+use Rattle.std.proofs.Common.{◌≡◌, ◌⊎◌, inl, inr, ℕ, zero, suc, ◌+◌, ◌-◌, ◌*◌, ◌/◌, ◌^◌, ◌<◌, ◌≤◌, min, ◌&&◌, ◌==◌, Bool, true, false, cond, not, List, [], ◌∷◌, All, get_or, count_by, refl, sym, ap, ◌∙◌, arith, subst, lit≤, if◌then◌else◌}
 use Rattle.std.specs.List.{AllByRecursion, range_with_len}
 use Rattle.std.proofs.Math.Nat.{div-lt_iff_lt-mul, mul-le-mul_right}
 use Rattle.std.proofs.lemmas.Bool.{cases_Bool, false≢true}
@@ -8,7 +8,7 @@ use Rattle.std.proofs.lemmas.List.Elements.{All-from_recursion, All-weaker, recu
 use Rattle.std.proofs.lemmas.List.Sums.{sum_by-cons}
 use Rattle.cell_die.specs.declared.shape.Shape.{Shape}
 use Rattle.cell_die.specs.Cells.{is_blank, blank_page, page_at}
-use Rattle.cell_die.specs.Counts.{count_sum, raised, Rose}
+use Rattle.cell_die.specs.Counts.{count_sum, Rose}
 use Rattle.cell_die.specs.DieState.{DieState, IsShaped, page_of, page_count, page_bytes}
 use Rattle.cell_die.specs.Calls.{Kept}
 use Rattle.mem_die.specs.Limits.{IsWithinLimits as FitsDie}
@@ -19,8 +19,8 @@ use Rattle.spare_die.specs.declared.error.OpenError.{OpenError}
 use Rattle.spare_die.specs.declared.error.OpenError.TheVariants.{OutOfMemory, Shape as WrongShape, DieFault, Table}
 use Rattle.spare_die.specs.declared.tally.Tally.{Tally}
 use Rattle.spare_die.specs.Book.{IsUsedUp, IsCounted}
-use Rattle.spare_die.specs.Opening.{FitsShape, SoundUpTo, IsSoundTable, OpenCause, OnlyReads, StartsAt}
-use Rattle.spare_die.specs.Spare.{Own, spare_state, spare_shape, spare_place}
+use Rattle.spare_die.specs.Opening.{FitsShape, IsSoundTable, OpenCause, OnlyReads}
+use Rattle.spare_die.specs.Spare.{spare_state, spare_shape, spare_place}
 use Rattle.spare_die.specs.SpareLaws.{page_of-spare, place_inside}
 use Rattle.spare_die.specs.Table.{HasHomes, is_gated, is_entry_of, inner_of, is_named, is_named_up_to, is_used, named_count, used_count, reserve_count}
 use Rattle.spare_die.specs.Tallies.{own_of}
@@ -38,7 +38,7 @@ use Rattle.rssd_script.specs.declared.replies.Reply.TheVariants.{Fault}
 use Rattle.rssd_words.specs.Commands.{IsReserve}
 use Rattle.rssd_run.specs.View.{View, Event, faults}
 use Rattle.rssd_run.specs.Heads.{numbers_named}
-use Rattle.rssd_run.specs.PlayRuns.{IsPlaying, IsPlay, IsBlankDie, IsPlayStart, half_shape, worn_shape, IsSpareOver, left_of, IsBlankWorn, IsWornStart, IsWornStep, LeavesDie, EndsPlay}
+use Rattle.rssd_run.specs.PlayRuns.{IsPlaying, IsPlay, IsBlankDie, IsPlayStart, worn_shape, IsSpareOver, left_of, IsBlankWorn, IsWornStart, IsWornStep, LeavesDie, EndsPlay}
 use Rattle.rssd_script.specs.declared.lines.Line.{Line}
 use Rattle.rssd_run.specs.Statuses.{Output}
 use Rattle.rssd_run.specs.declared.status.Status.{Status}

@@ -110,6 +110,12 @@ impl Model for ReplyText {
 impl ReplyText {
     ghost use Rattle.rssd_script.specs.Replies.{reply_line};
 
+    pub(crate) fn from_bytes(bytes: ArrayVec<u8, 1100>) -> ReplyText
+        ensures { result ≡ bytes.items }
+    {
+        ReplyText { bytes }
+    }
+
     /// Empty room for the text of one reply.
     pub fn new() -> ReplyText
         ensures { result ≡ [] }

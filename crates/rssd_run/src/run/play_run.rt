@@ -1,19 +1,21 @@
 //! The commands `worn` and `pair`: a script is played on a die with reserve blocks whose erases go bad, or on two dies as one.
 //! They know neither the lines that only a session takes, nor what a line does.
-ghost use Rattle.std.specs.Prelude.{◌≡◌, ◌+◌, ◌%◌, ◌^◌, ◌<◌, ◌↔◌, length, true, All, IfOk, IfErr, IfSome, IsNone};
-ghost use Rattle.cell_die.specs.DieState.{DieState};
+ghost use Rattle.std.specs.Prelude.{◌≡◌, ◌%◌, ◌^◌, ◌<◌, ◌↔◌, length, List, true, All, IfOk, IfErr, IfSome, IsNone};
+ghost use Rattle.die_image.specs.declared.head.ImageHead.{ImageHead as Head};
 ghost use Rattle.die_image.specs.Image.{is_within_limits, shape_of};
 ghost use Rattle.mem_die.specs.Limits.{IsWithinLimits as FitsDie};
 ghost use Rattle.mem_die.specs.MemState.{mem_state, IsNew};
-ghost use Rattle.mem_die.specs.WornState.{worn_state};
 ghost use Rattle.rssd_core.specs.Mount.{MountFails};
+ghost use Rattle.rssd_io.specs.Event.{Event as Act};
+ghost use Rattle.rssd_script.specs.declared.lines.Line.{Line as Spelled};
+ghost use Rattle.rssd_words.specs.Commands.{IsReserve};
 ghost use Rattle.rssd_run.specs.Heads.{numbers_named};
 ghost use Rattle.rssd_run.specs.Played.{IsPlayed};
-ghost use Rattle.rssd_run.specs.PlayRuns.{FirstUnplayed, RefusesPlayed, IsBlankDie, IsPlayStart, LeavesDie, EndsPlay, IsBlankPair, IsBlankWorn};
+ghost use Rattle.rssd_run.specs.PlayRuns.{FirstUnplayed, RefusesPlayed, IsBlankDie, IsPlayStart, LeavesDie, EndsPlay, IsBlankPair, IsBlankWorn, IsPairStart, NeverStops, PlaysFrom, PlaysFrontFrom};
+ghost use Rattle.rssd_run.specs.Replays.{Replays, ReplaysFront};
 ghost use Rattle.rssd_run.specs.ReadScript.{ReadsAll, TakesScript};
 ghost use Rattle.rssd_run.specs.Statuses.{input, output};
 ghost use Rattle.rssd_run.specs.Top.{SaysWorn, SaysPair};
-ghost use Rattle.rssd_words.specs.Commands.{IsReserve};
 
 use crate::refusal::refuse_script;
 use crate::run::on_die::die_shape;
@@ -191,3 +193,16 @@ pub fn answer_pair<T: Source, O: Sink>(
     };
     answer_on(alloc, head, die, &lines, out)
 }
+
+/// What `pair` gives is what a replay of the same lines on one die of the head may give: it begins at a first view of one, and
+/// each of its steps is a step of a session. So all that holds of replays holds of it.
+pub fn pairs_are_replays()
+    ensures { (head : Head) (lines : List Spelled) (log after : List Act) → head.blocks % 2 ≡ 0
+        → PlaysFrom (IsPairStart head) NeverStops (numbers_named head) lines log after → Replays head lines log after }
+{}
+
+/// The same up to the line whose reply the sink did not take whole.
+pub fn cut_off_pairs_are_replays()
+    ensures { (head : Head) (lines : List Spelled) (log after : List Act) → head.blocks % 2 ≡ 0
+        → PlaysFrontFrom (IsPairStart head) NeverStops (numbers_named head) lines log after → ReplaysFront head lines log after }
+{}

@@ -1,7 +1,6 @@
 //! Lines played on a device over any die: a blank one is mounted with the scheme of a head, and the lines are played in order.
 ghost use Rattle.std.specs.Prelude.{◌≡◌, ◌≤◌, List, true, All, OnOk, OnErr, IfOk, IsErrOf};
 ghost use Rattle.cell_die.specs.Calls.{Kept};
-ghost use Rattle.cell_die.specs.DieState.{DieState};
 ghost use Rattle.die_image.specs.Image.{is_within_limits, shape_of};
 ghost use Rattle.rssd_core.specs.DeviceValue.{Numbers};
 ghost use Rattle.rssd_core.specs.Mount.{Mounts, MountFails};

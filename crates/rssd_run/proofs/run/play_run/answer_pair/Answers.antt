@@ -1,5 +1,5 @@
 -- Two blank dies as one are a blank die with power and nothing armed, on which no line fails.
-use Rattle.std.proofs.Common.{◌≡◌, All, List, sym, subst}
+use Rattle.std.proofs.Common.{All, List, sym, subst}
 use Rattle.cell_die.specs.DieState.{DieState}
 use Rattle.mem_die.specs.MemState.{mem_state}
 use Rattle.stripe_die.specs.Pair.{pair_state}

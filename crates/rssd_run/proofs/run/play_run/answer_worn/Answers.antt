@@ -1,5 +1,5 @@
 -- A die with reserve blocks over a blank worn die is blank, and a line fails on it only where its reserve is used up.
-use Rattle.std.proofs.Common.{◌≡◌, All, List, refl, sym, subst}
+use Rattle.std.proofs.Common.{All, List, refl, sym, subst}
 use Rattle.cell_die.specs.DieState.{DieState}
 use Rattle.mem_die.specs.WornState.{worn_state}
 use Rattle.spare_die.specs.Spare.{spare_state}

@@ -1,5 +1,5 @@
 -- A script has no more lines than bytes; and its first line that is not played is a bad one.
-use Rattle.std.proofs.Common.{◌≡◌, ap, arith, length}
+use Rattle.std.proofs.Common.{ap, arith, length}
 use Rattle.rssd_run.proofs.Spending.{lines_few}
 use Rattle.rssd_run.proofs.run.play_run.read_played.Goals as goal
 

@@ -1,5 +1,5 @@
 -- A blank worn die is opened but for want of memory, and what is opened is blank.
-use Rattle.std.proofs.Common.{◌≡◌, ◌+◌, inl, inr, ap, subst, ◌∙◌, refl, sym}
+use Rattle.std.proofs.Common.{◌≡◌, ◌+◌, inl, inr, ap, subst, ◌∙◌, sym}
 use Rattle.cell_die.specs.declared.shape.Shape.{Shape}
 use Rattle.mem_die.specs.declared.mem.MemDie.{MemDie}
 use Rattle.mem_die.specs.declared.worn.WornMem.{WornMem}
@@ -9,7 +9,7 @@ use Rattle.spare_die.specs.Book.{KeepsFacts}
 use Rattle.spare_die.specs.Spare.{spare_state}
 use Rattle.spare_die.specs.Tallies.{own_of}
 use Rattle.spare_die.specs.declared.error.OpenError.TheVariants.{OutOfMemory}
-use Rattle.rssd_run.specs.PlayRuns.{IsBlankDie, IsSpareOver, worn_shape}
+use Rattle.rssd_run.specs.PlayRuns.{IsBlankDie, worn_shape}
 use Rattle.rssd_run.proofs.WornPlays.{new_worn, read_worn, every_read, worn_opens}
 use Rattle.rssd_run.proofs.run.play_run.worn_die.Goals as goal
 

@@ -1,9 +1,8 @@
 -- A line more is a step more of the play, and its text is given after the others.
-use Rattle.std.proofs.Common.{◌≡◌, ℕ, ◌+◌, ◌++◌, ◌∷◌, [], All, List, length, take, ◌∙◌, refl, sym, ap, subst, arith, Result, Ok, Err, OnErr, length-take}
+use Rattle.std.proofs.Common.{◌≡◌, ℕ, ◌+◌, ◌++◌, ◌∷◌, [], List, length, take, ◌∙◌, refl, sym, ap, subst, arith, Result, Ok, Err, OnErr, length-take}
 use Rattle.std.proofs.lemmas.List.{take_more}
 use Rattle.std.proofs.lemmas.List.Elements.{All-get_or}
 use Rattle.rssd_io.specs.Event.{moved, failed}
-use Rattle.rssd_script.specs.declared.lines.Line.{Line}
 use Rattle.rssd_script.specs.Replies.{reply_line}
 use Rattle.rssd_core.specs.DeviceValue.{DeviceValue}
 use Rattle.rssd_run.specs.View.{Event}

@@ -1,9 +1,5 @@
 use Rattle.std.proofs.Common.{◌≡◌, take}
-use Rattle.rssd_core.specs.DeviceValue.{Numbers}
-use Rattle.rssd_core.specs.Outcomes.{TrueWhileRunning}
-use Rattle.page_codec.specs.Sound.{IsSound}
 use Rattle.rssd_run.specs.Held.{Tallies}
-use Rattle.rssd_run.specs.Shows.{Mounted, ShowsHolding}
 use Rattle.rssd_run.specs.View.{View}
 use Rattle.rssd_run.specs.PlayRuns.{LeavesDie, PlayOf}
 use Rattle.rssd_run.proofs.Plays.{Stands}

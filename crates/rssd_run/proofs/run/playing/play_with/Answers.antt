@@ -1,9 +1,6 @@
 -- The device stands for the first view of a play, and its lines are a play from there.
-use Rattle.std.proofs.Common.{◌≡◌, ◌≤◌, ℕ, List, sym, subst}
-use Rattle.rssd_core.specs.DeviceValue.{Numbers, DeviceValue}
-use Rattle.rssd_core.specs.Mount.{Fits}
-use Rattle.rssd_io.specs.Event.{Event as Act}
-use Rattle.rssd_run.specs.Heads.{numbers_named}
+use Rattle.std.proofs.Common.{◌≤◌, sym, subst}
+use Rattle.rssd_core.specs.DeviceValue.{Numbers}
 use Rattle.rssd_run.proofs.HeadLimits.{head_fits}
 use Rattle.rssd_run.proofs.PlayStart.{IsGivenBlank, plays_from, plays_front_from}
 use Rattle.rssd_run.proofs.run.playing.play_with.Goals as goal
