@@ -3,7 +3,6 @@ use Rattle.std.specs.Prelude.{◌≡◌, ℕ, ◌+◌, ◌-◌, ◌<◌, ◌≤�
 use Rattle.cell_die.specs.declared.shape.Torn.{Torn}
 use Rattle.cell_die.specs.declared.shape.Torn.TheVariants.{Nothing}
 use Rattle.cell_die.specs.DieState.{DieState, Failures}
-use Rattle.cell_die.specs.Changed.{IsChanged}
 
 abbrev pub cut_in : Option Failures → ℕ
 cut_in None = 0
@@ -55,10 +54,9 @@ Tells die = IsSomeAnd die.failures (λ failures. Unit {0})
 abbrev pub TellsPower : DieState → Type 0
 TellsPower die = IsSomeAnd die.failures (λ failures. failures.powered ≡ true)
 
--- How a call that did not fail moves the armed failures: so many change calls, each carried out whole, and so many reads, or at most so many.
+-- How a call that did not fail moves the armed failures: so many change calls, and so many reads, or at most so many.
 pub record Lowers (changes reads : ℕ) (Bounded : Type 0) (old new : DieState) : Type 0 where
   pub cut : Lower changes (cut_of old) (cut_of new)
   pub form : 0 < cut_of new → form_of new ≡ form_of old
   pub read : (Bounded → ⊥) → Lower reads (read_failure_of old) (read_failure_of new)
   pub read_bound : LowerWithin reads (read_failure_of old) (read_failure_of new)
-  pub changed : IsChanged changes old new

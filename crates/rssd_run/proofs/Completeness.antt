@@ -10,7 +10,7 @@ use Rattle.rssd_words.specs.declared.command.Command.{Command}
 use Rattle.rssd_words.specs.declared.command.Command.TheVariants.{Replay, Run, Format, Make, Upgrade, Queue, Worn, Pair, Audit}
 use Rattle.rssd_run.specs.declared.status.Status.{Status}
 use Rattle.rssd_run.specs.declared.status.Status.TheVariants.{Done, BadWords, BadScript, BadImage, ReadFault, WriteFault, OutOfMemory, Unsound}
-use Rattle.rssd_run.specs.Statuses.{Call, WriteFailed}
+use Rattle.rssd_run.specs.Statuses.{Call, taken, WriteFailed}
 use Rattle.rssd_run.specs.ImageRuns.{IsFull}
 use Rattle.rssd_run.specs.Run.{pieces_of}
 use Rattle.rssd_run.specs.MakeRuns.{SaysMake}

@@ -164,3 +164,4 @@ says_play S P d script out lines is_script played BadWords ends = absurd ends
 says_play S P d script out lines is_script played BadScript ends = absurd ends
 says_play S P d script out lines is_script played BadImage ends = absurd ends
 says_play S P d script out lines is_script played ReadFault ends = absurd ends
+says_play S P d script out lines is_script played Unsound ends = absurd ends

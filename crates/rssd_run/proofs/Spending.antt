@@ -136,13 +136,6 @@ lines_length : (events : List Event) → length (lines_of events) ≡ length eve
 lines_length [] = refl
 lines_length (e ∷ events) = let rest = lines_length events in omega (arith, rest)
 
-pub lines_few : (text : List ℕ) (lines : List Line) → Reads text lines → length lines < 2 ^ 32
-lines_few text lines reads =
-    let short = reads.0 in
-    let few = few_lines text in
-    let many = as_many (text_lines text) lines reads.1 in
-    omega (arith, short, few, many)
-
 -- ---- a replay
 
 start_below : (head : ImageHead) (view : View) → IsBlankStart head view → IsBelow (numbers_named head) 1 view

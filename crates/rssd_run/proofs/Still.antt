@@ -1,11 +1,9 @@
 -- What moves nothing but the die's counts and armed failures.
-use Rattle.std.proofs.Common.{◌≡◌, ◌⊎◌, inl, inr, ℕ, ◌+◌, ◌^◌, ◌≤◌, ◌<◌, List, [], Option, None, Some, true, IsSomeAnd, refl, arith, sym, subst, ◌∙◌}
+use Rattle.std.proofs.Common.{◌≡◌, ◌⊎◌, inl, inr, ℕ, ◌^◌, ◌≤◌, ◌<◌, List, [], Option, None, Some, true, IsSomeAnd, refl, arith, sym, ◌∙◌}
 use Rattle.std.specs.Option.{option_map}
 use Rattle.cell_die.specs.declared.shape.Torn.{Torn}
 use Rattle.cell_die.specs.DieState.{DieState, Failures}
 use Rattle.cell_die.specs.Changes.{SameCells}
-use Rattle.cell_die.specs.Changed.{IsChanged}
-use Rattle.cell_die.proofs.Changed.{changed_none, changed_trans}
 use Rattle.cell_die.specs.Power.{told, with_cut, with_read_failure, with_power}
 use Rattle.cell_die.proofs.Single.{same_cells_never_fall}
 use Rattle.rssd_core.specs.BookChanges.{Change, Leads}
@@ -53,7 +51,6 @@ lowers_none die = record {
   form = λ h. refl;
   read = λ n. record { lower = omega arith; to_come = λ h. h };
   read_bound = record { within = omega arith; no_later = omega arith; to_come = λ h. h };
-  changed = changed_none die die refl (record { cells = refl; erases = refl });
 }
 
 -- arming a failure, none comes
@@ -99,14 +96,11 @@ lowers_powered {changes} {reads} {Bounded} die new lowers =
     let cut : cut_of (told with_power die) ≡ cut_of die = cut_powered die.failures in
     let form : form_of (told with_power die) ≡ form_of die = form_powered die.failures in
     let read : read_failure_of (told with_power die) ≡ read_failure_of die = read_powered die.failures in
-    let still : IsChanged 0 die (told with_power die) = changed_none die (told with_power die) refl (record { cells = refl; erases = refl }) in
-    let sum : 0 + changes ≡ changes = omega arith in
     record {
       cut = rw cut at lowers.cut;
       form = λ h. lowers.form h ∙ form;
       read = λ not. rw read at (lowers.read not);
       read_bound = rw read at lowers.read_bound;
-      changed = subst (λ (n : ℕ). IsChanged n die new) sum (changed_trans 0 changes die (told with_power die) new still lowers.changed);
     }
 
 pub power_given : (die : DieState) → Tells die → TellsPower (told with_power die)
