@@ -1,15 +1,11 @@
 -- Acts of a queue run, one after the other, and on a session.
-use Rattle.std.proofs.Common.{◌≡◌, ◌⊎◌, inl, inr, ℕ, ◌+◌, Bool, true, false, not, List, [], ◌∷◌, ◌++◌, take, Some, refl, sym, ap, ◌∙◌, subst, append_assoc, append-nil, arith}
-use Rattle.cell_die.specs.DieState.{DieState}
-use Rattle.page_codec.specs.Sound.{IsSound}
-use Rattle.rssd_core.specs.DeviceValue.{Numbers, DeviceValue, rows_of}
+use Rattle.std.proofs.Common.{◌≡◌, inl, ℕ, ◌+◌, Bool, true, false, not, List, [], ◌∷◌, ◌++◌, take, Some, refl, sym, ap, ◌∙◌, subst, append_assoc, append-nil}
+use Rattle.rssd_core.specs.DeviceValue.{Numbers, rows_of}
 use Rattle.rssd_io.specs.Event.{Event as Io, moved, failed}
 use Rattle.rssd_io.specs.Pieces.{all_given}
 use Rattle.rssd_io.proofs.Logs.{given_append}
-use Rattle.rssd_queue.specs.declared.ask.Ask.{Ask}
 use Rattle.rssd_queue.specs.declared.ask.Tagged.{Tagged}
 use Rattle.rssd_queue.specs.Waiting.{Waiting, Accepts}
-use Rattle.rssd_queue.specs.Pick.{Takes}
 use Rattle.rssd_script.specs.declared.lines.Line.{Line}
 use Rattle.rssd_script.specs.declared.replies.Reply.{Reply}
 use Rattle.rssd_script.specs.Replies.{tagged_line}
@@ -22,7 +18,7 @@ use Rattle.rssd_run.specs.Steps.{ArrayIs}
 use Rattle.rssd_run.specs.Run.{IsRun}
 use Rattle.rssd_run.specs.Shows.{SessionValue, Holding, Mounted, Closed, Nothing, Shows, ShowsHolding, StepsSession}
 use Rattle.rssd_run.specs.Serves.{ask_of, line_of, is_running, ServesSession}
-use Rattle.rssd_run.specs.QueueActs.{Place, place, Act, Put, Served, AtOnce, is_on, IsServeDue, IsAtOnceDue, IsPut, IsServed, IsAtOnce, IsAct, AreActs, texts_of, steps_of, ActsTo, ActsCutOff, ActsSession, CutsOffActs}
+use Rattle.rssd_run.specs.QueueActs.{Place, place, Act, Put, Served, AtOnce, is_on, IsServeDue, IsAtOnceDue, IsAct, AreActs, texts_of, steps_of, ActsTo, ActsCutOff, ActsSession, CutsOffActs}
 
 -- ---- lists of acts
 

@@ -1,5 +1,5 @@
 -- Where no served command is refused, the array's rows change by the served commands alone, as they do in the queue's own runs.
-use Rattle.std.proofs.Common.{◌≡◌, ◌⊎◌, inl, inr, ℕ, ◌+◌, ◌-◌, ◌<◌, ◌≤◌, Bool, true, false, not, All, List, [], ◌∷◌, ◌++◌, length, replicate, remove, get_or, set, Option, None, Some, MatchOption, refl, sym, ap, ◌∙◌, subst, arith, length-append}
+use Rattle.std.proofs.Common.{◌≡◌, ◌⊎◌, inl, inr, ℕ, ◌+◌, ◌-◌, ◌<◌, ◌≤◌, true, false, not, All, List, [], ◌∷◌, ◌++◌, length, replicate, get_or, set, Option, None, Some, MatchOption, refl, sym, ap, ◌∙◌, subst, arith, length-append}
 use Rattle.std.specs.List.{AllByRecursion}
 use Rattle.std.proofs.lemmas.Bool.{cases_lt, ltb-true}
 use Rattle.std.proofs.lemmas.List.{get_or_append_left, get_or-append_right}
@@ -12,7 +12,7 @@ use Rattle.rssd_queue.specs.declared.ask.Ask.{Ask}
 use Rattle.rssd_queue.specs.declared.ask.Ask.TheVariants as asks
 use Rattle.rssd_queue.specs.declared.ask.Tagged.{Tagged}
 use Rattle.rssd_queue.specs.declared.serve.Answer.{Answer}
-use Rattle.rssd_queue.specs.declared.serve.Answer.TheVariants.{Wrote, Bytes as Row, Trimmed, Refused}
+use Rattle.rssd_queue.specs.declared.serve.Answer.TheVariants.{Wrote, Bytes as Row, Trimmed}
 use Rattle.rssd_queue.specs.Asks.{sector_of, is_long, filled}
 use Rattle.rssd_queue.specs.Waiting.{Waiting, Accepts, IsAsked, IsWhole, accepted, command_at, no_command}
 use Rattle.rssd_queue.specs.Pick.{Takes}
@@ -23,7 +23,7 @@ use Rattle.rssd_script.specs.declared.lines.Line.{Line}
 use Rattle.rssd_script.specs.declared.lines.Line.TheVariants.{Write, Read, Trim, Idle, Cut, FailRead, Mount, Stat}
 use Rattle.rssd_script.specs.declared.replies.Reply.{Reply}
 use Rattle.rssd_script.specs.declared.replies.Reply.TheVariants.{First, Second, Declined, Bytes, Done, Moves, Stat as Counts, Range, Long, Off as SaysOff, Fault, Spent, NoSpare, NoMemory}
-use Rattle.rssd_run.specs.ArrayWithCuts.{ArrayState, On, Off, Row as IsRow, WriteRow, TrimRow, ReadRow, IdleRow, MayBeOff, RefusedRow}
+use Rattle.rssd_run.specs.ArrayWithCuts.{ArrayState, On, Off, Row as IsRow, WriteRow, TrimRow, ReadRow, MayBeOff, RefusedRow}
 use Rattle.rssd_run.specs.Moves.{is_off}
 use Rattle.rssd_run.specs.View.{View, Event, IsOn}
 use Rattle.rssd_run.specs.Step.{IsStep, OutOfRange, TooLong}

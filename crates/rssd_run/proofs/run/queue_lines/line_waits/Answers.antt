@@ -1,5 +1,5 @@
 -- A command is put behind the serve that made room, or is not put and nothing changes.
-use Rattle.std.proofs.Common.{◌≡◌, ℕ, ◌+◌, List, ◌∷◌, Some, sym, ◌∙◌, subst}
+use Rattle.std.proofs.Common.{◌≡◌, ℕ, ◌+◌, ◌∷◌, Some, sym, ◌∙◌, subst}
 use Rattle.rssd_queue.specs.declared.ask.Tagged.{Tagged}
 use Rattle.rssd_queue.specs.Waiting.{Waiting}
 use Rattle.rssd_script.specs.declared.lines.Line.{Line}

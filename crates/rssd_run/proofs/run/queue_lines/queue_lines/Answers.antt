@@ -1,8 +1,8 @@
 -- One line more leads on from those before it, and at the end all that waits is served.
-use Rattle.std.proofs.Common.{◌≡◌, ℕ, ◌+◌, ◌≤◌, List, [], ◌∷◌, length, drop, sym, ap, ◌∙◌, refl, arith}
+use Rattle.std.proofs.Common.{◌≡◌, ℕ, ◌+◌, List, [], ◌∷◌, length, drop, sym, ap, ◌∙◌, refl, arith}
 use Rattle.std.proofs.lemmas.List.{drop_more, drop_all}
 use Rattle.rssd_script.specs.declared.lines.Line.{Line}
-use Rattle.rssd_run.specs.QueueActs.{Place, place}
+use Rattle.rssd_run.specs.QueueActs.{place}
 use Rattle.rssd_run.proofs.QueueActs.{session_none, session_then, session_cut, session_at, cut_at}
 use Rattle.rssd_run.proofs.QueueTags.{always_err, none_waits, ok_then, err_then}
 use Rattle.rssd_run.proofs.run.queue_lines.queue_lines.Goals as goal
