@@ -1,15 +1,11 @@
 -- Acts of a queue run, one after the other, and on a session.
-use Rattle.std.proofs.Common.{◌≡◌, ◌⊎◌, inl, inr, ℕ, ◌+◌, Bool, true, false, not, List, [], ◌∷◌, ◌++◌, take, Some, refl, sym, ap, ◌∙◌, subst, append_assoc, append-nil, arith}
-use Rattle.cell_die.specs.DieState.{DieState}
-use Rattle.page_codec.specs.Sound.{IsSound}
-use Rattle.rssd_core.specs.DeviceValue.{Numbers, DeviceValue, rows_of}
+use Rattle.std.proofs.Common.{◌≡◌, inl, ℕ, ◌+◌, Bool, true, false, not, List, [], ◌∷◌, ◌++◌, take, Some, refl, sym, ap, ◌∙◌, subst, append_assoc, append-nil}
+use Rattle.rssd_core.specs.DeviceValue.{Numbers, rows_of}
 use Rattle.rssd_io.specs.Event.{Event as Io, moved, failed}
 use Rattle.rssd_io.specs.Pieces.{all_given}
 use Rattle.rssd_io.proofs.Logs.{given_append}
-use Rattle.rssd_queue.specs.declared.ask.Ask.{Ask}
 use Rattle.rssd_queue.specs.declared.ask.Tagged.{Tagged}
 use Rattle.rssd_queue.specs.Waiting.{Waiting, Accepts}
-use Rattle.rssd_queue.specs.Pick.{Takes}
 use Rattle.rssd_script.specs.declared.lines.Line.{Line}
 use Rattle.rssd_script.specs.declared.replies.Reply.{Reply}
 use Rattle.rssd_script.specs.Replies.{tagged_line}
@@ -22,7 +18,7 @@ use Rattle.rssd_run.specs.Steps.{ArrayIs}
 use Rattle.rssd_run.specs.Run.{IsRun}
 use Rattle.rssd_run.specs.Shows.{SessionValue, Holding, Mounted, Closed, Nothing, Shows, ShowsHolding, StepsSession}
 use Rattle.rssd_run.specs.Serves.{ask_of, line_of, is_running, ServesSession}
-use Rattle.rssd_run.specs.QueueActs.{Place, place, Act, Put, Served, AtOnce, is_on, IsServeDue, IsAtOnceDue, IsPut, IsServed, IsAtOnce, IsAct, AreActs, texts_of, steps_of, ActsTo, ActsCutOff, ActsSession, CutsOffActs}
+use Rattle.rssd_run.specs.QueueActs.{Place, place, Act, Put, Served, AtOnce, is_on, IsServeDue, IsAtOnceDue, IsAct, AreActs, texts_of, steps_of, ActsTo, ActsCutOff, ActsSession, CutsOffActs}
 
 -- ---- lists of acts
 
@@ -148,27 +144,34 @@ module _ (d : Numbers) (old new : SessionValue) (log log_after : List Io) where
     pub serve_acts : log_after ≡ log ++ moved (tagged_line tag reply) ∷ [] → ActsSession d from old to new log log_after
     serve_acts given before shows sound =
         let s = served.step.step before shows (inl sound) in
-        let e : Event = record { line = line_of served.command.ask; reply = reply; before = before; after = s.0 } in
-        (s.0, s.1, s.2.keeps.sound sound, record {
-          acts = Served served.command e ∷ [];
-          run = acts_one d (Served served.command e) from to before s.0 (served_act before s.0 shows s.2);
-          given = given ∙ ap (λ (n : ℕ). log ++ moved (tagged_line n reply) ∷ []) served.same_tag;
-        })
+        let e : Event = record { line = line_of served.command.ask; reply = reply; before = before; after = s.0 } in (
+          s.0,
+          s.1,
+          s.2.keeps.sound sound,
+          record {
+            acts = Served served.command e ∷ [];
+            run = acts_one d (Served served.command e) from to before s.0 (served_act before s.0 shows s.2);
+            given = given ∙ ap (λ (n : ℕ). log ++ moved (tagged_line n reply) ∷ []) served.same_tag;
+          },
+        )
 
     pub serve_cut : (front : ℕ) → log_after ≡ log ++ moved (take front (tagged_line tag reply)) ∷ failed ∷ [] → CutsOffActs d from old new log log_after
     serve_cut front given before shows sound =
         let s = served.step.step before shows (inl sound) in
-        let e : Event = record { line = line_of served.command.ask; reply = reply; before = before; after = s.0 } in
-        (s.0, s.1, record {
-          to = to;
-          acts = Served served.command e ∷ [];
-          run = acts_one d (Served served.command e) from to before s.0 (served_act before s.0 shows s.2);
-          texts = [];
-          last = tagged_line served.command.tag reply;
-          texts_are = refl;
-          front = front;
-          given = given ∙ ap (λ (n : ℕ). log ++ moved (take front (tagged_line n reply)) ∷ failed ∷ []) served.same_tag;
-        })
+        let e : Event = record { line = line_of served.command.ask; reply = reply; before = before; after = s.0 } in (
+          s.0,
+          s.1,
+          record {
+            to = to;
+            acts = Served served.command e ∷ [];
+            run = acts_one d (Served served.command e) from to before s.0 (served_act before s.0 shows s.2);
+            texts = [];
+            last = tagged_line served.command.tag reply;
+            texts_are = refl;
+            front = front;
+            given = given ∙ ap (λ (n : ℕ). log ++ moved (take front (tagged_line n reply)) ∷ failed ∷ []) served.same_tag;
+          },
+        )
 
   -- a line that is carried out at once
   module _ (line : Line) (reply : Reply) (steps : StepsSession d line reply old new) (queue : Waiting) (lines : List Line) (tag : ℕ)
@@ -195,27 +198,34 @@ module _ (d : Numbers) (old new : SessionValue) (log log_after : List Io) where
     pub at_once_acts : log_after ≡ log ++ moved (tagged_line tag reply) ∷ [] → ActsSession d start old end new log log_after
     at_once_acts given before shows sound =
         let s = steps.step before shows (inl sound) in
-        let e : Event = record { line = line; reply = reply; before = before; after = s.0 } in
-        (s.0, s.1, s.2.keeps.sound sound, record {
-          acts = AtOnce tag e ∷ [];
-          run = acts_one d (AtOnce tag e) start end before s.0 (at_once_act before s.0 shows s.2);
-          given = given;
-        })
+        let e : Event = record { line = line; reply = reply; before = before; after = s.0 } in (
+          s.0,
+          s.1,
+          s.2.keeps.sound sound,
+          record {
+            acts = AtOnce tag e ∷ [];
+            run = acts_one d (AtOnce tag e) start end before s.0 (at_once_act before s.0 shows s.2);
+            given = given;
+          },
+        )
 
     pub at_once_cut : (front : ℕ) → log_after ≡ log ++ moved (take front (tagged_line tag reply)) ∷ failed ∷ [] → CutsOffActs d start old new log log_after
     at_once_cut front given before shows sound =
         let s = steps.step before shows (inl sound) in
-        let e : Event = record { line = line; reply = reply; before = before; after = s.0 } in
-        (s.0, s.1, record {
-          to = end;
-          acts = AtOnce tag e ∷ [];
-          run = acts_one d (AtOnce tag e) start end before s.0 (at_once_act before s.0 shows s.2);
-          texts = [];
-          last = tagged_line tag reply;
-          texts_are = refl;
-          front = front;
-          given = given;
-        })
+        let e : Event = record { line = line; reply = reply; before = before; after = s.0 } in (
+          s.0,
+          s.1,
+          record {
+            to = end;
+            acts = AtOnce tag e ∷ [];
+            run = acts_one d (AtOnce tag e) start end before s.0 (at_once_act before s.0 shows s.2);
+            texts = [];
+            last = tagged_line tag reply;
+            texts_are = refl;
+            front = front;
+            given = given;
+          },
+        )
 
 -- a put, on which nothing is told
 pub put_acts : (d : Numbers) (session : SessionValue) (line : Line) (c : Tagged) (queue queue_after : Waiting) (lines : List Line) (log : List Io)
@@ -223,21 +233,25 @@ pub put_acts : (d : Numbers) (session : SessionValue) (line : Line) (c : Tagged)
     → ActsSession d (place (line ∷ lines) c.tag queue) session (place lines (c.tag + 1) queue_after) session log log
 put_acts d session line c queue queue_after lines log runs asks accepts before shows sound =
     let from : Place = place (line ∷ lines) c.tag queue in
-    let to : Place = place lines (c.tag + 1) queue_after in
-    (before, shows, sound, record {
-      acts = Put c ∷ [];
-      run = acts_one d (Put c) from to before before (record {
-        line = line;
-        first = refl;
-        asks = asks;
-        its_tag = refl;
-        on = shows_on d session before shows ∙ runs;
-        accepted = accepts;
-        next_tag = refl;
-        same_view = refl;
-      });
-      given = sym (append-nil log);
-    })
+    let to : Place = place lines (c.tag + 1) queue_after in (
+      before,
+      shows,
+      sound,
+      record {
+        acts = Put c ∷ [];
+        run = acts_one d (Put c) from to before before (record {
+          line = line;
+          first = refl;
+          asks = asks;
+          its_tag = refl;
+          on = shows_on d session before shows ∙ runs;
+          accepted = accepts;
+          next_tag = refl;
+          same_view = refl;
+        });
+        given = sym (append-nil log);
+      },
+    )
 
 -- nothing waited
 pub session_same : (d : Numbers) (lines : List Line) (tag : ℕ) (queue queue_after : Waiting) (s t : SessionValue) (log : List Io) → queue_after ≡ queue → t ≡ s

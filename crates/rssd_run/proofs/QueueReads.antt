@@ -1,5 +1,5 @@
 -- Where no served command is refused, the array's rows change by the served commands alone, as they do in the queue's own runs.
-use Rattle.std.proofs.Common.{◌≡◌, ◌⊎◌, inl, inr, ℕ, ◌+◌, ◌-◌, ◌<◌, ◌≤◌, Bool, true, false, not, All, List, [], ◌∷◌, ◌++◌, length, replicate, remove, get_or, set, Option, None, Some, MatchOption, refl, sym, ap, ◌∙◌, subst, arith, length-append}
+use Rattle.std.proofs.Common.{◌≡◌, ◌⊎◌, inl, inr, ℕ, ◌+◌, ◌-◌, ◌<◌, ◌≤◌, true, false, not, All, List, [], ◌∷◌, ◌++◌, length, replicate, get_or, set, Option, None, Some, MatchOption, refl, sym, ap, ◌∙◌, subst, arith, length-append}
 use Rattle.std.specs.List.{AllByRecursion}
 use Rattle.std.proofs.lemmas.Bool.{cases_lt, ltb-true}
 use Rattle.std.proofs.lemmas.List.{get_or_append_left, get_or-append_right}
@@ -12,7 +12,7 @@ use Rattle.rssd_queue.specs.declared.ask.Ask.{Ask}
 use Rattle.rssd_queue.specs.declared.ask.Ask.TheVariants as asks
 use Rattle.rssd_queue.specs.declared.ask.Tagged.{Tagged}
 use Rattle.rssd_queue.specs.declared.serve.Answer.{Answer}
-use Rattle.rssd_queue.specs.declared.serve.Answer.TheVariants.{Wrote, Bytes as Row, Trimmed, Refused}
+use Rattle.rssd_queue.specs.declared.serve.Answer.TheVariants.{Wrote, Bytes as Row, Trimmed}
 use Rattle.rssd_queue.specs.Asks.{sector_of, is_long, filled}
 use Rattle.rssd_queue.specs.Waiting.{Waiting, Accepts, IsAsked, IsWhole, accepted, command_at, no_command}
 use Rattle.rssd_queue.specs.Pick.{Takes}
@@ -23,7 +23,7 @@ use Rattle.rssd_script.specs.declared.lines.Line.{Line}
 use Rattle.rssd_script.specs.declared.lines.Line.TheVariants.{Write, Read, Trim, Idle, Cut, FailRead, Mount, Stat}
 use Rattle.rssd_script.specs.declared.replies.Reply.{Reply}
 use Rattle.rssd_script.specs.declared.replies.Reply.TheVariants.{First, Second, Declined, Bytes, Done, Moves, Stat as Counts, Range, Long, Off as SaysOff, Fault, Spent, NoSpare, NoMemory}
-use Rattle.rssd_run.specs.ArrayWithCuts.{ArrayState, On, Off, Row as IsRow, WriteRow, TrimRow, ReadRow, IdleRow, MayBeOff, RefusedRow}
+use Rattle.rssd_run.specs.ArrayWithCuts.{ArrayState, On, Off, Row as IsRow, WriteRow, TrimRow, ReadRow, MayBeOff, RefusedRow}
 use Rattle.rssd_run.specs.Moves.{is_off}
 use Rattle.rssd_run.specs.View.{View, Event, IsOn}
 use Rattle.rssd_run.specs.Step.{IsStep, OutOfRange, TooLong}
@@ -289,8 +289,11 @@ module _ (d : Numbers) (queue : Waiting) (e : Event) (step : IsStep d e) (sector
       inl (step.answers.refused.range.1 (on, subst (OutOfRange d) (sym is) (out_of_range d ask (omega (arith, far, sectors)))))
   unfit_reply ask is on (inr long) = elim (cases_lt (sector_of ask) d.geometry.sectors) [
     | inr far ↦ inl (step.answers.refused.range.1 (on, subst (OutOfRange d) (sym is) (out_of_range d ask far)))
-    | inl low ↦ inr (step.answers.refused.long.1 (on, (λ far. in_range d ask low (subst (OutOfRange d) is far)),
-        subst (TooLong d) (sym is) (too_long d ask (subst (λ (n : ℕ). is_long n ask ≡ true) bytes long))))
+    | inl low ↦ inr (step.answers.refused.long.1 (
+      on,
+      (λ far. in_range d ask low (subst (OutOfRange d) is far)),
+      subst (TooLong d) (sym is) (too_long d ask (subst (λ (n : ℕ). is_long n ask ≡ true) bytes long)),
+    ))
   ]
 
   module _ (rows : List (List ℕ)) (has : HasRows rows e.before.array) where
@@ -398,9 +401,11 @@ queue_run d [] from to before after rows all run none = ap (λ (p : Place). seen
 queue_run d (Put c ∷ acts) from to before after rows all run none =
     (seen run.0.queue rows, (run.2.accepted, refl), queue_run d acts run.0 to run.1 after rows (act_keeps d from before run.0 run.1 rows all (Put c) run.2 none.0) run.3 none.1)
 queue_run d (Served c e ∷ acts) from to before after rows all run none =
-    let size : ℕ = d.geometry.sector_bytes in
-    (seen run.0.queue (queue_runs.carried size rows c.ask), (run.2.taken, record { answer_is = answers_so rows c.ask; carried_so = λ h. ap (λ (n : ℕ). queue_runs.carried n rows c.ask) (sym all.bytes) }),
-    queue_run d acts run.0 to run.1 after (queue_runs.carried size rows c.ask) (act_keeps d from before run.0 run.1 rows all (Served c e) run.2 none.0) run.3 none.1)
+    let size : ℕ = d.geometry.sector_bytes in (
+      seen run.0.queue (queue_runs.carried size rows c.ask),
+      (run.2.taken, record { answer_is = answers_so rows c.ask; carried_so = λ h. ap (λ (n : ℕ). queue_runs.carried n rows c.ask) (sym all.bytes) }),
+      queue_run d acts run.0 to run.1 after (queue_runs.carried size rows c.ask) (act_keeps d from before run.0 run.1 rows all (Served c e) run.2 none.0) run.3 none.1,
+    )
 queue_run d (AtOnce tag e ∷ acts) from to before after rows all run none =
     subst (λ (q : Waiting). queue_runs.IsRun (seen q rows) (events_of d.geometry.sector_bytes rows acts) (seen to.queue (rows_after d.geometry.sector_bytes rows acts))) run.2.same_queue
     (queue_run d acts run.0 to run.1 after rows (act_keeps d from before run.0 run.1 rows all (AtOnce tag e) run.2 none.0) run.3 none.1)
@@ -473,7 +478,9 @@ reads_the_order d acts from to before after rows on none passed sectors bytes_ar
     let found' : queue_runs.ReadInOrder size rows (queue_runs.accepted_in size (events_of size rows first ++ queue_runs.Served c (Row row) ∷ later)) (queue_runs.served_in (events_of size rows first)) c row
     = subst (λ (n : ℕ). queue_runs.ReadInOrder n rows (queue_runs.accepted_in n (events_of size rows first ++ queue_runs.Served c (Row row) ∷ later)) (queue_runs.served_in (events_of size rows first)) c row) bytes_are found in
     let accepted_are : queue_runs.accepted_in size (events_of size rows first ++ queue_runs.Served c (Row row) ∷ later) ≡ accepted_in size acts
-    = ap (queue_runs.accepted_in size) (sym events_are) ∙ (same_accepted size size rows (first ++ Served c e ∷ rest) ∙ ap (accepted_in size) (sym parts)) in
-    (row, read.told,
-    subst (λ (cs : List Tagged). queue_runs.ReadInOrder size rows cs (served_in first) c row) accepted_are
-    (subst (λ (cs : List Tagged). queue_runs.ReadInOrder size rows (queue_runs.accepted_in size (events_of size rows first ++ queue_runs.Served c (Row row) ∷ later)) cs c row) (same_served size rows first) found'))
+    = ap (queue_runs.accepted_in size) (sym events_are) ∙ (same_accepted size size rows (first ++ Served c e ∷ rest) ∙ ap (accepted_in size) (sym parts)) in (
+      row,
+      read.told,
+      subst (λ (cs : List Tagged). queue_runs.ReadInOrder size rows cs (served_in first) c row) accepted_are
+          (subst (λ (cs : List Tagged). queue_runs.ReadInOrder size rows (queue_runs.accepted_in size (events_of size rows first ++ queue_runs.Served c (Row row) ∷ later)) cs c row) (same_served size rows first) found'),
+    )

@@ -1,10 +1,10 @@
 -- What the one call for a command leaves is what its line leaves.
-use Rattle.std.proofs.Common.{◌≡◌, ℕ, ◌-◌, ◌++◌, List, [], length, replicate, true, false, Option, None, Some, IfSome, refl, sym, ap, ◌∙◌, subst, arith, append-nil}
+use Rattle.std.proofs.Common.{◌≡◌, ℕ, ◌-◌, ◌++◌, List, length, replicate, false, Option, None, Some, IfSome, sym, ap, ◌∙◌, subst, arith, append-nil}
 use Rattle.rssd_core.specs.declared.device.Placed.TheVariants.{First as PutFirst, Second as PutSecond, Declined as PutDeclined}
 use Rattle.rssd_core.specs.declared.device.FtlError.TheVariants.{BadSector, Stopped, DieFault, Spent as NumbersSpent}
 use Rattle.rssd_core.specs.SectorArray.{filled_up, without_zeros}
 use Rattle.rssd_core.specs.DeviceValue.{Numbers, DeviceValue}
-use Rattle.rssd_core.specs.Outcomes.{Wrote, WriteFault, Holds}
+use Rattle.rssd_core.specs.Outcomes.{Holds}
 use Rattle.rssd_queue.specs.declared.ask.Ask.{Ask}
 use Rattle.rssd_queue.specs.declared.ask.Ask.TheVariants as asks
 use Rattle.rssd_queue.specs.declared.serve.Answer.{Answer}

@@ -1,15 +1,14 @@
 -- A script's lines through a queue to a blank die that is mounted first.
-use Rattle.std.specs.Prelude.{◌≡◌, ℕ, ◌+◌, List, [], ◌∷◌, length}
+use Rattle.std.specs.Prelude.{◌≡◌, ◌+◌, List, [], length}
 use Rattle.die_image.specs.declared.head.ImageHead.{ImageHead}
 use Rattle.die_image.specs.Schemes.{row_of}
 use Rattle.rssd_io.specs.Event.{Event as Io}
-use Rattle.rssd_queue.specs.declared.ask.Tagged.{Tagged}
 use Rattle.rssd_queue.specs.Waiting.{Waiting, empty}
 use Rattle.rssd_script.specs.declared.lines.Line.{Line}
 use Rattle.rssd_run.specs.View.{View}
 use Rattle.rssd_run.specs.Heads.{numbers_named}
 use Rattle.rssd_run.specs.Replays.{IsBlankStart}
-use Rattle.rssd_run.specs.QueueActs.{Place, place, Act, Put, Served, AtOnce, ActsTo, ActsCutOff}
+use Rattle.rssd_run.specs.QueueActs.{Place, place, ActsTo, ActsCutOff}
 
 -- all lines are left, the first has the tag 1, and nothing waits
 abbrev pub first_place : ImageHead → List Line → Place

@@ -11,9 +11,9 @@ ghost use Rattle.rssd_run.specs.Held.{added_tallies, tallies_of};
 ghost use Rattle.rssd_run.specs.Serves.{IsQueueOf, ServesSession, is_running};
 ghost use Rattle.rssd_run.specs.Shows.{CanStep, IsDeviceLine, HasNumbers, HasDie, StepsSession, Starts, session_of, tallies};
 
-use crate::run::{Serving, Stepping};
 use crate::run::line::{answer_line, mount_again, refusal_reply};
 use crate::run::served::{serve_off, serve_on};
+use crate::run::{Serving, Stepping};
 use cell_die::PowerDie;
 use rssd_core::device::{Counts, MountError, Plan, PowerDevice, Refused};
 use rssd_queue::Queue;

@@ -1,5 +1,5 @@
 -- A command is put behind the serve that made room, or is not put and nothing changes.
-use Rattle.std.proofs.Common.{◌≡◌, ℕ, ◌+◌, List, ◌∷◌, Some, sym, ◌∙◌, subst}
+use Rattle.std.proofs.Common.{◌≡◌, ℕ, ◌+◌, ◌∷◌, Some, sym, ◌∙◌, subst}
 use Rattle.rssd_queue.specs.declared.ask.Tagged.{Tagged}
 use Rattle.rssd_queue.specs.Waiting.{Waiting}
 use Rattle.rssd_script.specs.declared.lines.Line.{Line}
@@ -34,5 +34,5 @@ returns-in_ok-make_room-in-Some-clause-not_put g c = λ is d numbers lines.
     let line : Line = c.args.line.now in
     let asks : ask_of line ≡ Some c.in-Some.ask = sym c.ask_of.ensures ∙ c.in-Some.is in
     subst (λ (q : Waiting). ActsSession d (place (line ∷ lines) c.args.tag c.args.queue.now) (session c.args.session.now) (place (line ∷ lines) c.args.tag q) (session c.make_room.new.session)
-        (log c.args.out.now) (log c.make_room.new.out))
+    (log c.args.out.now) (log c.make_room.new.out))
     (sym (c.put.ensures.same is)) (c.in_ok-make_room-in-Some.ensures.ok d numbers line c.in-Some.ask lines c.args.tag asks)

@@ -1,8 +1,8 @@
 -- One line more leads on from those before it, and at the end all that waits is served.
-use Rattle.std.proofs.Common.{◌≡◌, ℕ, ◌+◌, ◌≤◌, List, [], ◌∷◌, length, drop, sym, ap, ◌∙◌, refl, arith}
+use Rattle.std.proofs.Common.{◌≡◌, ℕ, ◌+◌, List, [], ◌∷◌, length, drop, sym, ap, ◌∙◌, refl, arith}
 use Rattle.std.proofs.lemmas.List.{drop_more, drop_all}
 use Rattle.rssd_script.specs.declared.lines.Line.{Line}
-use Rattle.rssd_run.specs.QueueActs.{Place, place}
+use Rattle.rssd_run.specs.QueueActs.{place}
 use Rattle.rssd_run.proofs.QueueActs.{session_none, session_then, session_cut, session_at, cut_at}
 use Rattle.rssd_run.proofs.QueueTags.{always_err, none_waits, ok_then, err_then}
 use Rattle.rssd_run.proofs.run.queue_lines.queue_lines.Goals as goal
@@ -39,8 +39,8 @@ loop-line-preserved g c =
           (session c.args.session.now) (session c.loop-line.session) (session c.take_line.new.session) (log c.args.out.now) (log c.loop-line.out) (log c.take_line.new.out)
           (c.loop-line.invariant.acts d numbers)
           (session_at d (place (line ∷ rest) (tag + 1) c.loop-line.queue) (place (drop i lines) (i + 1) c.loop-line.queue) (place rest (tag + 1 + 1) c.take_line.new.queue) (place rest (i + 1 + 1) c.take_line.new.queue)
-              (session c.loop-line.session) (session c.take_line.new.session) (log c.loop-line.out) (log c.take_line.new.out) from to
-              (c.in_ok-take_line.ensures.ok d (c.loop-line.invariant.numbers d numbers) rest));
+          (session c.loop-line.session) (session c.take_line.new.session) (log c.loop-line.out) (log c.take_line.new.out) from to
+          (c.in_ok-take_line.ensures.ok d (c.loop-line.invariant.numbers d numbers) rest));
     }
 
 pub returns-in_err-take_line-clause-err : goal.returns-in_err-take_line-clause-err
@@ -59,8 +59,8 @@ returns-in_err-take_line-clause-err g c = always_err c.from_residual.result _ (�
     (session c.args.session.now) (session c.loop-line.session) (session c.take_line.new.session) (log c.args.out.now) (log c.loop-line.out) (log c.take_line.new.out)
     (c.loop-line.invariant.acts d numbers)
     (cut_at d (place (line ∷ rest) (tag + 1) c.loop-line.queue) (place (drop i lines) (i + 1) c.loop-line.queue)
-        (session c.loop-line.session) (session c.take_line.new.session) (log c.loop-line.out) (log c.take_line.new.out) from
-        (c.in_err-take_line.ensures.err d (c.loop-line.invariant.numbers d numbers) rest)))
+    (session c.loop-line.session) (session c.take_line.new.session) (log c.loop-line.out) (log c.take_line.new.out) from
+    (c.in_err-take_line.ensures.err d (c.loop-line.invariant.numbers d numbers) rest)))
 
 pub returns-clause-ok : goal.returns-clause-ok
 returns-clause-ok g c =
@@ -75,7 +75,7 @@ returns-clause-ok g c =
     session_then d (place lines 1 c.args.queue.now) (place [] (length lines + 1) c.loop-line.queue) (place [] (length lines + 1) c.serve_all.new.queue)
     (session c.args.session.now) (session c.loop-line.session) (session c.serve_all.new.session) (log c.args.out.now) (log c.loop-line.out) (log c.serve_all.new.out)
     (session_at d (place lines 1 c.args.queue.now) (place lines 1 c.args.queue.now) (place (drop i lines) (i + 1) c.loop-line.queue) (place [] (length lines + 1) c.loop-line.queue)
-        (session c.args.session.now) (session c.loop-line.session) (log c.args.out.now) (log c.loop-line.out) refl end (c.loop-line.invariant.acts d numbers))
+    (session c.args.session.now) (session c.loop-line.session) (log c.args.out.now) (log c.loop-line.out) refl end (c.loop-line.invariant.acts d numbers))
     (ok d (c.loop-line.invariant.numbers d numbers) [] (length lines + 1) tt)) c.serve_all.ensures.ok
 
 pub returns-clause-err : goal.returns-clause-err
@@ -91,5 +91,5 @@ returns-clause-err g c =
     session_cut d (place lines 1 c.args.queue.now) (place [] (length lines + 1) c.loop-line.queue)
     (session c.args.session.now) (session c.loop-line.session) (session c.serve_all.new.session) (log c.args.out.now) (log c.loop-line.out) (log c.serve_all.new.out)
     (session_at d (place lines 1 c.args.queue.now) (place lines 1 c.args.queue.now) (place (drop i lines) (i + 1) c.loop-line.queue) (place [] (length lines + 1) c.loop-line.queue)
-        (session c.args.session.now) (session c.loop-line.session) (log c.args.out.now) (log c.loop-line.out) refl end (c.loop-line.invariant.acts d numbers))
+    (session c.args.session.now) (session c.loop-line.session) (log c.args.out.now) (log c.loop-line.out) refl end (c.loop-line.invariant.acts d numbers))
     (err d (c.loop-line.invariant.numbers d numbers) [] (length lines + 1) tt)) c.serve_all.ensures.err

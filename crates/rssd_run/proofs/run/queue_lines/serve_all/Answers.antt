@@ -1,7 +1,4 @@
 -- One serve more leads on from those before it.
-use Rattle.std.proofs.Common.{◌≡◌, ℕ, List}
-use Rattle.rssd_script.specs.declared.lines.Line.{Line}
-use Rattle.rssd_core.specs.DeviceValue.{Numbers}
 use Rattle.rssd_run.specs.Serves.{is_running}
 use Rattle.rssd_run.specs.QueueActs.{place}
 use Rattle.rssd_run.proofs.QueueActs.{session_none, session_then, session_cut}
