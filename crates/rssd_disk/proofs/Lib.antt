@@ -1,0 +1,4 @@
+pub mod Joined
+pub mod Rows
+pub mod Loops
+pub mod Requests

@@ -1,0 +1,5 @@
+pub mod Bytes
+pub mod Disk
+pub mod Puts
+pub mod Rules
+pub mod Answers
