@@ -70,29 +70,29 @@ put-put place first second all fits =
         → length (put (place + length first) second (put place first all)) ≡ length all → length (put place (first ++ second) all) ≡ length all
         → (k : ℕ) → k < length (put (place + length first) second (put place first all)) → get_or (put (place + length first) second (put place first all)) k 0 ≡ get_or (put place (first ++ second) all) k 0
     at fits both mid left right k inside = elim (cases_lt k place) [
-          inl before ↦
-            put-before (place + length first) second (put place first all) k (omega arith) (omega arith)
-            ∙ put-before place first all k (omega arith) before
-            ∙ sym (put-before place (first ++ second) all k (omega arith) before)
-        | inr from ↦ (elim (cases_lt k (place + length first)) [
-              inl in_first ↦
-                put-before (place + length first) second (put place first all) k (omega arith) in_first
-                ∙ put-inside place first all k (omega arith) from in_first
-                ∙ sym (get_or_append_left first second 0 (k - place) (omega arith))
-                ∙ sym (put-inside place (first ++ second) all k (omega arith) from (omega arith))
-            | inr past_first ↦ (elim (cases_lt k (place + length first + length second)) [
-                  inl in_second ↦
-                    put-inside (place + length first) second (put place first all) k (omega arith) past_first in_second
-                    ∙ ap (λ i. get_or second i 0) (omega arith)
-                    ∙ sym (get_or-append_right first second (length first) (k - place) 0 refl (omega arith))
-                    ∙ sym (put-inside place (first ++ second) all k (omega arith) from (omega arith))
-                | inr past ↦
-                    put-after (place + length first) second (put place first all) k (omega arith) past
-                    ∙ put-after place first all k (omega arith) (omega arith)
-                    ∙ sym (put-after place (first ++ second) all k (omega arith) (omega arith))
-              ])
-          ])
-      ]
+      | inl before ↦
+          put-before (place + length first) second (put place first all) k (omega arith) (omega arith)
+          ∙ put-before place first all k (omega arith) before
+          ∙ sym (put-before place (first ++ second) all k (omega arith) before)
+      | inr from ↦ (elim (cases_lt k (place + length first)) [
+        | inl in_first ↦
+            put-before (place + length first) second (put place first all) k (omega arith) in_first
+            ∙ put-inside place first all k (omega arith) from in_first
+            ∙ sym (get_or_append_left first second 0 (k - place) (omega arith))
+            ∙ sym (put-inside place (first ++ second) all k (omega arith) from (omega arith))
+        | inr past_first ↦ (elim (cases_lt k (place + length first + length second)) [
+          | inl in_second ↦
+              put-inside (place + length first) second (put place first all) k (omega arith) past_first in_second
+              ∙ ap (λ i. get_or second i 0) (omega arith)
+              ∙ sym (get_or-append_right first second (length first) (k - place) 0 refl (omega arith))
+              ∙ sym (put-inside place (first ++ second) all k (omega arith) from (omega arith))
+          | inr past ↦
+              put-after (place + length first) second (put place first all) k (omega arith) past
+              ∙ put-after place first all k (omega arith) (omega arith)
+              ∙ sym (put-after place (first ++ second) all k (omega arith) (omega arith))
+        ])
+      ])
+    ]
 
 mod_mul_add : (a size b : ℕ) → 0 < size → b < size → (a * size + b) % size ≡ b
 mod_mul_add a size b some low =
@@ -140,10 +140,13 @@ joined_set size count sector start bytes row rows some inside here fits puts =
   where
     other : (p : ℕ) → p / size ≢ sector → byte_at size (set rows sector row) p ≡ byte_at size rows p
     other p apart = ap (λ l. get_or l (p % size) 0) (get_or-set_other rows sector (p / size) row [] apart)
+
     same : (p : ℕ) → p / size ≡ sector → byte_at size (set rows sector row) p ≡ get_or row (p % size) 0
     same p e = ap (λ q. get_or (get_or (set rows sector row) q []) (p % size) 0) e ∙ ap (λ l. get_or l (p % size) 0) (get_or-set_same rows sector row [] here)
+
     old : (p : ℕ) → p / size ≡ sector → get_or (get_or rows sector []) (p % size) 0 ≡ byte_at size rows p
     old p e = ap (λ q. get_or (get_or rows q []) (p % size) 0) (sym e)
+
     at : length (joined size count rows) ≡ count * size → sector * size + size ≤ count * size → (p : ℕ) → p < count * size
         → get_or (joined size count (set rows sector row)) p 0 ≡ get_or (put (sector * size + start) bytes (joined size count rows)) p 0
     at old_length room p in_all =
@@ -151,23 +154,23 @@ joined_set size count sector start bytes row rows some inside here fits puts =
         let low : p % size < size = mod_below p size some in
         let was : get_or (joined size count rows) p 0 ≡ byte_at size rows p = get_or-joined size count rows p in_all in
         get_or-joined size count (set rows sector row) p in_all ∙ (elim (cases_order (p / size) sector) [
-          inl e ↦
-            (let at_sector : sector * size + p % size ≡ p = subst (λ (q : ℕ). q * size + p % size ≡ p) e split in
-            same p e ∙ (elim (cases_lt (p % size) start) [
-              inl before ↦ puts.before (p % size) before ∙ old p e ∙ sym was ∙ sym (put-before (sector * size + start) bytes (joined size count rows) p (omega arith) (omega arith))
-            | inr from ↦ (elim (cases_lt (p % size) (start + length bytes)) [
-                inl to ↦ puts.inside (p % size) from to ∙ ap (λ i. get_or bytes i 0) (omega arith)
-                    ∙ sym (put-inside (sector * size + start) bytes (joined size count rows) p (omega arith) (omega arith) (omega arith))
-              | inr past ↦ puts.after (p % size) past low ∙ old p e ∙ sym was ∙ sym (put-after (sector * size + start) bytes (joined size count rows) p (omega arith) (omega arith))
-              ])
-            ]))
-        | inr apart ↦ (elim apart [
-            inl below ↦
-              (let ends : p / size * size + size ≤ sector * size = row_end size (p / size) sector below in
-              other p (λ e. absurd (omega arith)) ∙ sym was ∙ sym (put-before (sector * size + start) bytes (joined size count rows) p (omega arith) (omega arith)))
-          | inr above ↦
-              (let ends : sector * size + size ≤ p / size * size = row_end size sector (p / size) above in
-              other p (λ e. absurd (omega arith)) ∙ sym was ∙ sym (put-after (sector * size + start) bytes (joined size count rows) p (omega arith) (omega arith)))
+          | inl e ↦
+              (let at_sector : sector * size + p % size ≡ p = subst (λ (q : ℕ). q * size + p % size ≡ p) e split in
+              same p e ∙ (elim (cases_lt (p % size) start) [
+                | inl before ↦ puts.before (p % size) before ∙ old p e ∙ sym was ∙ sym (put-before (sector * size + start) bytes (joined size count rows) p (omega arith) (omega arith))
+                | inr from ↦ (elim (cases_lt (p % size) (start + length bytes)) [
+                  | inl to ↦ puts.inside (p % size) from to ∙ ap (λ i. get_or bytes i 0) (omega arith)
+                      ∙ sym (put-inside (sector * size + start) bytes (joined size count rows) p (omega arith) (omega arith) (omega arith))
+                  | inr past ↦ puts.after (p % size) past low ∙ old p e ∙ sym was ∙ sym (put-after (sector * size + start) bytes (joined size count rows) p (omega arith) (omega arith))
+                ])
+              ]))
+          | inr apart ↦ (elim apart [
+            | inl below ↦
+                (let ends : p / size * size + size ≤ sector * size = row_end size (p / size) sector below in
+                other p (λ e. absurd (omega arith)) ∙ sym was ∙ sym (put-before (sector * size + start) bytes (joined size count rows) p (omega arith) (omega arith)))
+            | inr above ↦
+                (let ends : sector * size + size ≤ p / size * size = row_end size sector (p / size) above in
+                other p (λ e. absurd (omega arith)) ∙ sym was ∙ sym (put-after (sector * size + start) bytes (joined size count rows) p (omega arith) (omega arith)))
           ])
         ])
 
@@ -189,11 +192,11 @@ joined_part size count sector start n rows some inside fits long =
         get_or-take n (drop start (get_or rows sector [])) k 0 low
         ∙ get_or-drop start (get_or rows sector []) k 0
         ∙ sym (get_or-take n (drop (sector * size + start) (joined size count rows)) k 0 low
-            ∙ get_or-drop (sector * size + start) (joined size count rows) k 0
-            ∙ ap (λ i. get_or (joined size count rows) i 0) (sym whole)
-            ∙ get_or-joined size count rows (sector * size + (start + k)) (omega arith)
-            ∙ ap (λ q. get_or (get_or rows q []) ((sector * size + (start + k)) % size) 0) quotient
-            ∙ ap (λ i. get_or (get_or rows sector []) i 0) rest)
+        ∙ get_or-drop (sector * size + start) (joined size count rows) k 0
+        ∙ ap (λ i. get_or (joined size count rows) i 0) (sym whole)
+        ∙ get_or-joined size count rows (sector * size + (start + k)) (omega arith)
+        ∙ ap (λ q. get_or (get_or rows q []) ((sector * size + (start + k)) % size) 0) quotient
+        ∙ ap (λ i. get_or (get_or rows sector []) i 0) rest)
 
 -- after a write to a part of a row
 pub put_mid_is : (start k : ℕ) (bytes row part : List ℕ) → part ≡ bytes → length bytes ≡ k → put_mid start k row part ≡ put start bytes row

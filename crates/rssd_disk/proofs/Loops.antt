@@ -124,19 +124,19 @@ step_fails d place total done size part front bytes next all old mid new t b lon
     record {
       keeps = keeps_trans first.keeps second_d.keeps;
       front = λ sound. elim (second_d.either (first.keeps.sound sound)) [
-          inl stays ↦ record {
-            n = done;
-            within = omega (arith, t.more, long);
-            at_sector = λ some below. sym (ap (λ s. (place + done) % s) t.size_is) ∙ at some (omega (arith, long));
-            put = stays ∙ first.put ∙ ap (λ l. put place l (disk d old.view)) is_front;
-          }
+        | inl stays ↦ record {
+          n = done;
+          within = omega (arith, t.more, long);
+          at_sector = λ some below. sym (ap (λ s. (place + done) % s) t.size_is) ∙ at some (omega (arith, long));
+          put = stays ∙ first.put ∙ ap (λ l. put place l (disk d old.view)) is_front;
+        }
         | inr done_too ↦ record {
-            n = done + part.count;
-            within = omega (arith, turn_within d place total done size part t, long);
-            at_sector = λ some below. sym (ap (λ s. (place + (done + part.count)) % s) t.size_is) ∙ turn_end d place total done size part t (omega (arith, long));
-            put = done_too ∙ ap (put (place + done) bytes) first.put ∙ put_behind d place total done size part front bytes next old.view t b ∙ ap (λ l. put place l (disk d old.view)) is_next;
-          }
-        ];
+          n = done + part.count;
+          within = omega (arith, turn_within d place total done size part t, long);
+          at_sector = λ some below. sym (ap (λ s. (place + (done + part.count)) % s) t.size_is) ∙ turn_end d place total done size part t (omega (arith, long));
+          put = done_too ∙ ap (put (place + done) bytes) first.put ∙ put_behind d place total done size part front bytes next old.view t b ∙ ap (λ l. put place l (disk d old.view)) is_next;
+        }
+      ];
       cause = later_cause d old mid new first.keeps second_d.cause;
     }
 

@@ -42,27 +42,27 @@ later_rise a b c h rose = omega arith
 
 pub later_cause : (d : Numbers) (old mid new : DeviceValue) → Keeps d old mid → HasCause mid new → HasCause old new
 later_cause d old mid new keeps cause = elim cause [
-    inl read ↦ inl (later_rise _ _ _ keeps.kept.read_faults read)
+  | inl read ↦ inl (later_rise _ _ _ keeps.kept.read_faults read)
   | inr rest ↦ (elim rest [
-      inl change ↦ inr (inl (later_rise _ _ _ keeps.kept.change_faults change))
+    | inl change ↦ inr (inl (later_rise _ _ _ keeps.kept.change_faults change))
     | inr spent ↦ inr (inr spent)
-    ])
-  ]
+  ])
+]
 
 -- ---- a failed call of the die
 
 pub fault_cause : {d : Numbers} {Within : ℕ → ℕ → Type 0} {done : List (List ℕ)} {old new : DeviceValue} → Faulted d Within done old new → HasCause old new
 fault_cause fault = elim fault [
-    inl read ↦ inl read.failed.read_faults
+  | inl read ↦ inl read.failed.read_faults
   | inr change ↦ inr (inl change.failed.change_faults)
-  ]
+]
 
 pub fault_rows : {d : Numbers} {Within : ℕ → ℕ → Type 0} {done : List (List ℕ)} {old new : DeviceValue} → Faulted d Within done old new → IsSound d.geometry old.view.die.cells
     → (rows_of d new.view ≡ rows_of d old.view) ⊎ (rows_of d new.view ≡ done)
 fault_rows fault sound = elim fault [
-    inl read ↦ inl read.rows
+  | inl read ↦ inl read.rows
   | inr change ↦ change.rows sound
-  ]
+]
 
 pub wrote_row : (d : Numbers) (sector : ℕ) (row : List ℕ) (placed : Placed) (old new : DeviceValue) → Holds d old new → Wrote d sector row placed old new → HasRow d sector row old new
 wrote_row d sector row placed old new holds wrote = record { keeps = keeps_held holds; rows = wrote.rows; running = wrote.running }
@@ -106,9 +106,9 @@ pub part_fails_row : (d : Numbers) (sector start : ℕ) (bytes row : List ℕ) (
 part_fails_row d sector start bytes row old new sizes inside fits puts fails = record {
   keeps = fails.keeps;
   either = λ sound. elim (fails.either sound) [
-      inl same ↦ inl (ap (joined d.geometry.sector_bytes d.geometry.sectors) same)
+    | inl same ↦ inl (ap (joined d.geometry.sector_bytes d.geometry.sectors) same)
     | inr done ↦ inr (ap (joined d.geometry.sector_bytes d.geometry.sectors) done ∙ put_row d sector start bytes row old.view sizes inside fits puts)
-    ];
+  ];
   cause = fails.cause;
 }
 
@@ -189,9 +189,9 @@ change_fails d part bytes row changed old mid new h fails =
     record {
       keeps = keeps_trans h.same.keeps part_d.keeps;
       either = λ sound. elim (part_d.either (h.same.keeps.sound sound)) [
-          inl stays ↦ inl (stays ∙ before)
+        | inl stays ↦ inl (stays ∙ before)
         | inr done ↦ inr (done ∙ ap (put (place_of d part) bytes) before)
-        ];
+      ];
       cause = later_cause d old mid new h.same.keeps part_d.cause;
     }
 

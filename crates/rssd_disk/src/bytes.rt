@@ -11,7 +11,7 @@ use rssd_core::device::{Device, FtlError};
 use striped::Scheme;
 
 /// Reads the bytes from a place on.
-pub fn read_bytes<D: Die + Drop, C: Scheme + Drop, F: Device<D, C>>(
+pub(crate) fn read_bytes<D: Die + Drop, C: Scheme + Drop, F: Device<D, C>>(
     ftl: &mut F,
     place: u64,
     into: &mut [u8],
@@ -34,7 +34,7 @@ pub fn read_bytes<D: Die + Drop, C: Scheme + Drop, F: Device<D, C>>(
 }
 
 /// Writes the bytes from a place on.
-pub fn write_bytes<D: Die + Drop, C: Scheme + Drop, F: Device<D, C>>(
+pub(crate) fn write_bytes<D: Die + Drop, C: Scheme + Drop, F: Device<D, C>>(
     ftl: &mut F,
     place: u64,
     bytes: &[u8],
@@ -56,7 +56,7 @@ pub fn write_bytes<D: Die + Drop, C: Scheme + Drop, F: Device<D, C>>(
 }
 
 /// Makes so many bytes from a place on zeros.
-pub fn zero_bytes<D: Die + Drop, C: Scheme + Drop, F: Device<D, C>>(
+pub(crate) fn zero_bytes<D: Die + Drop, C: Scheme + Drop, F: Device<D, C>>(
     ftl: &mut F,
     place: u64,
     count: usize,

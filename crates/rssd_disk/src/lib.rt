@@ -2,8 +2,18 @@
 //! file and no scheme.
 #![tactic(auto)]
 
-pub mod bytes;
-pub mod part;
-pub mod request;
-pub mod rules;
-pub mod sectors;
+mod bytes;
+mod device_disk;
+mod exact;
+mod handshake;
+mod part;
+mod request;
+mod requests;
+mod rules;
+mod sectors;
+mod serving;
+
+pub use device_disk::{DeviceDisk, Disk};
+pub use request::answer_request;
+pub use rules::{LONGEST, data_length, refusal};
+pub use serving::{Ended, ROOM, serve};

@@ -3,15 +3,15 @@ ghost use Rattle.std.specs.Prelude.{◌≡◌, ◌-◌, ◌/◌, ◌%◌, ◌^�
 
 /// Bytes of one sector.
 #[derive(Clone, Copy, Debug, PartialEq, Eq)]
-pub struct Part {
-    pub sector: u32,
+pub(crate) struct Part {
+    pub(crate) sector: u32,
     /// The place in the sector of the first.
-    pub start: usize,
-    pub count: usize,
+    pub(crate) start: usize,
+    pub(crate) count: usize,
 }
 
 /// The first part of so many bytes from a place on.
-pub fn part_at(place: u64, left: usize, sector_bytes: u32) -> Part
+pub(crate) fn part_at(place: u64, left: usize, sector_bytes: u32) -> Part
     requires some { 1 ≤ sector_bytes }
     requires low { place / sector_bytes < 2 ^ 32 }
     ensures sector { result.sector ≡ place / sector_bytes }

@@ -35,7 +35,7 @@ fn read_whole<D: Die + Drop, C: Scheme + Drop, F: Device<D, C>>(
 }
 
 /// Reads bytes of a sector.
-pub fn read_part<D: Die + Drop, C: Scheme + Drop, F: Device<D, C>>(
+pub(crate) fn read_part<D: Die + Drop, C: Scheme + Drop, F: Device<D, C>>(
     ftl: &mut F,
     part: Part,
     into: &mut [u8],
@@ -90,7 +90,7 @@ fn zero_whole<D: Die + Drop, C: Scheme + Drop, F: Device<D, C>>(
 }
 
 /// Writes bytes of a sector.
-pub fn write_part<D: Die + Drop, C: Scheme + Drop, F: Device<D, C>>(
+pub(crate) fn write_part<D: Die + Drop, C: Scheme + Drop, F: Device<D, C>>(
     ftl: &mut F,
     part: Part,
     bytes: &[u8],
@@ -114,7 +114,7 @@ pub fn write_part<D: Die + Drop, C: Scheme + Drop, F: Device<D, C>>(
 }
 
 /// Makes bytes of a sector zeros; a whole sector is trimmed.
-pub fn zero_part<D: Die + Drop, C: Scheme + Drop, F: Device<D, C>>(
+pub(crate) fn zero_part<D: Die + Drop, C: Scheme + Drop, F: Device<D, C>>(
     ftl: &mut F,
     part: Part,
 ) -> Result<(), FtlError>

@@ -1,6 +1,6 @@
 -- What is read answers the request.
 use Rattle.rssd_core.specs.DeviceValue.{DeviceValue}
-use Rattle.rssd_disk.proofs.Requests.{serves_read, fails_read}
+use Rattle.rssd_disk.proofs.Carried.{serves_read, fails_read}
 use Rattle.rssd_disk.proofs.request.answer_read.Goals as goal
 
 pub returns-in-Ok : goal.returns-in-Ok

@@ -1,6 +1,6 @@
 -- Each change is kept already: a flush has nothing to do.
 use Rattle.rssd_core.specs.DeviceValue.{DeviceValue}
-use Rattle.rssd_disk.proofs.Requests.{serves_flush}
+use Rattle.rssd_disk.proofs.Carried.{serves_flush}
 use Rattle.rssd_disk.proofs.request.carry_out.Goals as goal
 
 pub returns-in-Flush : goal.returns-in-Flush

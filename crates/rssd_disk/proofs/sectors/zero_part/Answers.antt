@@ -16,7 +16,7 @@ returns-then-part-sector_bytes-clause-put g c =
     let full : c.args.part.count ≡ old.numbers.geometry.sector_bytes = c.if-part-sector_bytes.true ∙ c.sector_bytes.ensures in
     let same : replicate c.args.part.count 0 ≡ zeros old.numbers = ap (λ n. replicate n 0) full in
     on_ok_weaker c.zero_whole.result (whole_put old.numbers c.args.part (replicate c.args.part.count 0) (zeros old.numbers) old new c.requires.sizes c.requires.part full same
-      (length-replicate old.numbers.geometry.sector_bytes 0 ∙ sym full)) c.zero_whole.ensures.put
+    (length-replicate old.numbers.geometry.sector_bytes 0 ∙ sym full)) c.zero_whole.ensures.put
 
 pub returns-then-part-sector_bytes-clause-fault : goal.returns-then-part-sector_bytes-clause-fault
 returns-then-part-sector_bytes-clause-fault g c =
@@ -25,7 +25,7 @@ returns-then-part-sector_bytes-clause-fault g c =
     let full : c.args.part.count ≡ old.numbers.geometry.sector_bytes = c.if-part-sector_bytes.true ∙ c.sector_bytes.ensures in
     let same : replicate c.args.part.count 0 ≡ zeros old.numbers = ap (λ n. replicate n 0) full in
     on_err_weaker c.zero_whole.result (whole_fails old.numbers c.args.part (replicate c.args.part.count 0) (zeros old.numbers) old new c.requires.sizes c.requires.part full same
-      (length-replicate old.numbers.geometry.sector_bytes 0 ∙ sym full)) c.zero_whole.ensures.fault
+    (length-replicate old.numbers.geometry.sector_bytes 0 ∙ sym full)) c.zero_whole.ensures.fault
 
 pub returns-clause-put : goal.returns-clause-put
 returns-clause-put g c =
