@@ -1,5 +1,5 @@
 -- What is read or put answers a request.
-use Rattle.std.proofs.Common.{◌≡◌, ◌⊎◌, ℕ, false, List, [], length, replicate, sym, ◌∙◌, ap, inl, inr, arith, subst, Option, Some, None}
+use Rattle.std.proofs.Common.{◌≡◌, ◌⊎◌, ℕ, false, List, [], length, replicate, sym, ◌∙◌, ap, inl, inr, arith, subst, Option, Some, None, IfSome}
 use Rattle.nbd_wire.specs.declared.command.Command.TheVariants.{Read, Write, Flush, Trim, WriteZeroes}
 use Rattle.nbd_wire.specs.declared.request.Request.{Request}
 use Rattle.nbd_wire.specs.declared.reply.Errno.{Errno}
@@ -98,6 +98,10 @@ by_numbers None d r before after old new NoSpace h = absurd h
 pub answers_numbers : (d : Numbers) (r : Request) (before after : List ℕ) (old new : DeviceValue) (reply : Errno) → Answers d r before after old new reply → new.numbers ≡ old.numbers
 answers_numbers d r before after old new reply h = by_numbers (refusal (disk_size d) r) d r before after old new reply h
 
--- a device that is ready has sizes that are served
-pub ready_sizes : {F P : Type 0} (device : F → DeviceValue) (mounted : Option F) (closed : Option P) (ftl : F) → mounted ≡ Some ftl → IsReady device mounted closed → IsDisk (device ftl).numbers
-ready_sizes {F} device mounted closed ftl e ready = (let P : Option F → Type 0 = λ m. IsReady device m closed in subst P e ready).0
+-- a device that is ready has sizes that are served, and runs
+pub ready_parts : {F P : Type 0} (device : F → DeviceValue) (mounted : Option F) (closed : Option P) (ftl : F) → mounted ≡ Some ftl → IsReady device mounted closed
+    → (IsDisk (device ftl).numbers) × ((device ftl).stopped ≡ false)
+ready_parts {F} device mounted closed ftl e ready = let P : Option F → Type 0 = λ m. IsReady device m closed in subst P e ready
+
+pub some_of : {F : Type 0} (P : F → Type 0) (mounted : Option F) (ftl : F) → mounted ≡ Some ftl → IfSome mounted P → P ftl
+some_of {F} P mounted ftl e holds = let Q : Option F → Type 0 = λ m. IfSome m P in subst Q e holds

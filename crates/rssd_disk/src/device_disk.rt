@@ -1,8 +1,8 @@
 //! A device as a disk: after a failed change call, which stops the device, it is mounted again before the next request.
-ghost use Rattle.std.specs.Prelude.{◌≡◌, ℕ, List, IfOk, IsTrue, length};
+ghost use Rattle.std.specs.Prelude.{◌≡◌, ◌↔◌, ℕ, List, IfOk, IfSome, IsTrue, length};
 ghost use Rattle.nbd_wire.specs.declared.request.Request.{Request as Asked};
 ghost use Rattle.nbd_wire.specs.declared.reply.Errno.{Errno as Reply};
-ghost use Rattle.rssd_disk.specs.Held.{IsHeld, IsReady, Runs};
+ghost use Rattle.rssd_disk.specs.Held.{IsHeld, IsReady, Runs, Gives, ComesFrom};
 ghost use Rattle.rssd_disk.specs.Rules.{data_length};
 
 use crate::request::{answer_request, size_of};
@@ -65,6 +65,8 @@ impl<D: PowerDie + Drop, C: Scheme + Drop, F: Device<D, C>> DeviceDisk<D, C, F> 
     /// Takes the die and the scheme out.
     fn close(&mut self) -> (D, C)
         requires { IsHeld F.device self.old.mounted self.old.closed }
+        ensures gives { Gives D.state C.meaning F.device self.old.mounted self.old.closed result }
+        ensures plan { self.new.plan ≡ self.old.plan }
     {
         match self.mounted.take() {
             Some(ftl) => ftl.close(),
@@ -77,7 +79,7 @@ impl<D: PowerDie + Drop, C: Scheme + Drop, F: Device<D, C>> DeviceDisk<D, C, F> 
 
     /// Whether the device runs.
     fn runs(&self) -> bool
-        ensures { IsTrue result → Runs F.device self.now.mounted }
+        ensures { IsTrue result ↔ Runs F.device self.now.mounted }
     {
         match &self.mounted {
             Some(ftl) => !ftl.stopped(),
@@ -88,7 +90,8 @@ impl<D: PowerDie + Drop, C: Scheme + Drop, F: Device<D, C>> DeviceDisk<D, C, F> 
     /// Mounts the die again where the device does not run.
     fn ready(&mut self, alloc: Global)
         requires { IsHeld F.device self.old.mounted self.old.closed }
-        ensures { IsReady F.device self.new.mounted self.new.closed }
+        ensures ready { IsReady F.device self.new.mounted self.new.closed }
+        ensures comes { IfSome self.new.mounted (λ ftl. ComesFrom D.state C.meaning F.device self.old.plan self.old.mounted self.old.closed (F.device ftl)) }
     {
         if self.runs() {
             return;
@@ -105,9 +108,11 @@ impl<D: PowerDie + Drop, C: Scheme + Drop, F: Device<D, C>> DeviceDisk<D, C, F> 
 }
 
 impl<D: PowerDie + Drop, C: Scheme + Drop, F: Device<D, C>> Disk for DeviceDisk<D, C, F> {
+    ghost use Rattle.rssd_disk.specs.Held.{IsHeld, AnswersHeld};
+
     ghost held = { λ s. IsHeld F.device s.mounted s.closed };
 
-    ghost answers = { λ old new request before after reply. Unit {0} };
+    ghost answers = { λ old new request before after reply. AnswersHeld D.state C.meaning F.device old.plan old.mounted old.closed new.mounted request before after reply };
 
     fn size(&self) -> u64 {
         self.size
