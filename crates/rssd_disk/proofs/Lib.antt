@@ -1,0 +1,6 @@
+pub mod Joined
+pub mod Rows
+pub mod Loops
+pub mod Carried
+pub mod Streams
+pub mod Asked

@@ -1,0 +1,42 @@
+-- A part that fills its sector is trimmed; another part is written with zeros.
+use Rattle.std.proofs.Common.{ℕ, List, ◌≡◌, replicate, take, ap, ◌∙◌, sym, subst, arith}
+use Rattle.std.proofs.lemmas.List.{length-replicate, take-replicate}
+use Rattle.std.proofs.lemmas.Result.{on_ok_weaker, on_err_weaker}
+use Rattle.rssd_core.specs.DeviceValue.{DeviceValue}
+use Rattle.rssd_core.specs.Outcomes.{zeros}
+use Rattle.rssd_disk.specs.Disk.{place_of}
+use Rattle.rssd_disk.specs.Puts.{HasPut, PartFails}
+use Rattle.rssd_disk.proofs.Rows.{whole_put, whole_fails}
+use Rattle.rssd_disk.proofs.sectors.zero_part.Goals as goal
+
+pub returns-then-part-sector_bytes-clause-put : goal.returns-then-part-sector_bytes-clause-put
+returns-then-part-sector_bytes-clause-put g c =
+    let old : DeviceValue = g.F.Device.device c.args.ftl.now in
+    let new : DeviceValue = g.F.Device.device c.zero_whole.new.ftl in
+    let full : c.args.part.count ≡ old.numbers.geometry.sector_bytes = c.if-part-sector_bytes.true ∙ c.sector_bytes.ensures in
+    let same : replicate c.args.part.count 0 ≡ zeros old.numbers = ap (λ n. replicate n 0) full in
+    on_ok_weaker c.zero_whole.result (whole_put old.numbers c.args.part (replicate c.args.part.count 0) (zeros old.numbers) old new c.requires.sizes c.requires.part full same
+    (length-replicate old.numbers.geometry.sector_bytes 0 ∙ sym full)) c.zero_whole.ensures.put
+
+pub returns-then-part-sector_bytes-clause-fault : goal.returns-then-part-sector_bytes-clause-fault
+returns-then-part-sector_bytes-clause-fault g c =
+    let old : DeviceValue = g.F.Device.device c.args.ftl.now in
+    let new : DeviceValue = g.F.Device.device c.zero_whole.new.ftl in
+    let full : c.args.part.count ≡ old.numbers.geometry.sector_bytes = c.if-part-sector_bytes.true ∙ c.sector_bytes.ensures in
+    let same : replicate c.args.part.count 0 ≡ zeros old.numbers = ap (λ n. replicate n 0) full in
+    on_err_weaker c.zero_whole.result (whole_fails old.numbers c.args.part (replicate c.args.part.count 0) (zeros old.numbers) old new c.requires.sizes c.requires.part full same
+    (length-replicate old.numbers.geometry.sector_bytes 0 ∙ sym full)) c.zero_whole.ensures.fault
+
+pub returns-clause-put : goal.returns-clause-put
+returns-clause-put g c =
+    let old : DeviceValue = g.F.Device.device c.args.ftl.now in
+    let new : DeviceValue = g.F.Device.device c.write_part.new.ftl in
+    let same : take c.args.part.count (replicate 512 0) ≡ replicate c.args.part.count 0 = take-replicate c.args.part.count 512 0 (omega (arith, c.requires.sizes.few, c.requires.part.within)) in
+    on_ok_weaker c.write_part.result (λ has. subst (λ (l : List ℕ). HasPut old.numbers (place_of old.numbers c.args.part) l old new) same has) c.write_part.ensures.put
+
+pub returns-clause-fault : goal.returns-clause-fault
+returns-clause-fault g c =
+    let old : DeviceValue = g.F.Device.device c.args.ftl.now in
+    let new : DeviceValue = g.F.Device.device c.write_part.new.ftl in
+    let same : take c.args.part.count (replicate 512 0) ≡ replicate c.args.part.count 0 = take-replicate c.args.part.count 512 0 (omega (arith, c.requires.sizes.few, c.requires.part.within)) in
+    on_err_weaker c.write_part.result (λ fails. subst (λ (l : List ℕ). PartFails old.numbers (place_of old.numbers c.args.part) l old new) same fails) c.write_part.ensures.fault

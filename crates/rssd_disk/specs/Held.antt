@@ -1,0 +1,56 @@
+-- What a disk over a device holds: a mounted device, or a die with its scheme.
+use Rattle.std.specs.Prelude.{◌≡◌, ℕ, List, Option, None, Some, IsSome, true, false}
+use Rattle.cell_die.specs.DieState.{DieState}
+use Rattle.nbd_wire.specs.declared.reply.Errno.{Errno}
+use Rattle.nbd_wire.specs.declared.reply.Errno.TheVariants.{InputOutput}
+use Rattle.nbd_wire.specs.declared.request.Request.{Request}
+use Rattle.striped.specs.Meaning.{Meaning}
+use Rattle.rssd_core.specs.declared.device.Plan.{Plan}
+use Rattle.rssd_core.specs.DeviceValue.{DeviceValue}
+use Rattle.rssd_core.specs.Mount.{Mounts, numbers_of}
+use Rattle.rssd_disk.specs.Answers.{Answers}
+use Rattle.rssd_disk.specs.Disk.{IsDisk}
+
+-- a device whose sizes are served is mounted, or a die is there to be mounted
+abbrev pub IsHeld : {F P : Type 0} → (F → DeviceValue) → Option F → Option P → Type 0
+IsHeld device None closed = IsSome closed
+IsHeld device (Some ftl) closed = IsDisk (device ftl).numbers
+
+-- the device runs
+abbrev pub Runs : {F : Type 0} → (F → DeviceValue) → Option F → Type 0
+Runs device None = ⊥
+Runs device (Some ftl) = (device ftl).stopped ≡ false
+
+-- the same, and a device that is mounted runs
+abbrev pub IsReady : {F P : Type 0} → (F → DeviceValue) → Option F → Option P → Type 0
+IsReady device None closed = IsSome closed
+IsReady device (Some ftl) closed = (IsDisk (device ftl).numbers) × ((device ftl).stopped ≡ false)
+
+-- the die and the scheme are those of the device, or else those that are there
+abbrev pub Gives : {D C F : Type 0} → (D → DieState) → (C → Meaning) → (F → DeviceValue) → Option F → Option (D × C) → D × C → Type 0
+Gives state meaning device (Some ftl) closed held = (state held.0 ≡ (device ftl).view.die) × (meaning held.1 ≡ (device ftl).numbers.meaning)
+Gives state meaning device None closed held = closed ≡ Some held
+
+-- a device that runs goes on, and the die of one that is stopped is mounted
+pub record GoesOn (plan : Plan) (old now : DeviceValue) : Type 0 where
+  pub same : old.stopped ≡ false → now ≡ old
+  pub mounted : old.stopped ≡ true → Mounts (numbers_of old.view.die.shape old.numbers.meaning plan) old.view.die now
+
+-- where the device that a request is asked of comes from
+abbrev pub ComesFrom : {D C F : Type 0} → (D → DieState) → (C → Meaning) → (F → DeviceValue) → Plan → Option F → Option (D × C) → DeviceValue → Type 0
+ComesFrom state meaning device plan (Some ftl) closed now = GoesOn plan (device ftl) now
+ComesFrom state meaning device plan None (Some held) now = Mounts (numbers_of (state held.0).shape (meaning held.1) plan) (state held.0) now
+ComesFrom state meaning device plan None None now = ⊥
+
+-- a request was asked of a device that runs, and left this one
+pub record AskedOf (Comes : DeviceValue → Type 0) (r : Request) (before after : List ℕ) (reply : Errno) (new : DeviceValue) : Type 0 where
+  pub device : DeviceValue
+  pub comes : Comes device
+  pub sizes : IsDisk device.numbers
+  pub running : device.stopped ≡ false
+  pub answered : Answers device.numbers r before after device new reply
+
+-- where no mount succeeds nothing is asked, and the reply is that the device failed
+abbrev pub AnswersHeld : {D C F : Type 0} → (D → DieState) → (C → Meaning) → (F → DeviceValue) → Plan → Option F → Option (D × C) → Option F → Request → List ℕ → List ℕ → Errno → Type 0
+AnswersHeld state meaning device plan mounted closed None r before after reply = (reply ≡ InputOutput) × (after ≡ before)
+AnswersHeld state meaning device plan mounted closed (Some ftl) r before after reply = AskedOf (ComesFrom state meaning device plan mounted closed) r before after reply (device ftl)

@@ -1,0 +1,87 @@
+-- Requests that are answered one after another.
+use Rattle.std.specs.Prelude.{◌≡◌, ℕ, ◌≤◌, List, [], ◌∷◌, ◌++◌, length}
+use Rattle.nbd_wire.specs.declared.command.Command.{Command}
+use Rattle.nbd_wire.specs.declared.command.Command.TheVariants.{Read, Write}
+use Rattle.nbd_wire.specs.declared.reply.Errno.{Errno}
+use Rattle.nbd_wire.specs.declared.reply.Errno.TheVariants.{Done}
+use Rattle.nbd_wire.specs.declared.request.Request.{Request}
+use Rattle.nbd_wire.specs.Requests.{request_bytes, IsRequest}
+use Rattle.nbd_wire.specs.Replies.{reply_bytes}
+use Rattle.rssd_io.specs.Event.{Event, moved}
+use Rattle.rssd_disk.specs.declared.serving.Ended.{Ended}
+use Rattle.rssd_disk.specs.declared.serving.Ended.TheVariants.{WriteFault, NoPower}
+use Rattle.rssd_disk.specs.Rules.{longest, data_length}
+use Rattle.rssd_disk.specs.Streams.{Takes}
+
+-- What stands behind the head of a request: the bytes of a write, of which those of one that is too long are passed over.
+abbrev pub IsBehind : Request → Command → List ℕ → List ℕ → Type 0
+IsBehind r Write before behind = (length behind ≡ r.length) × (r.length ≤ longest → behind ≡ before)
+IsBehind r _ before behind = behind ≡ []
+
+-- it was taken
+pub record Brings (r : Request) (old new : List Event) (before : List ℕ) : Type 0 where
+  pub behind : List ℕ
+  pub is_behind : IsBehind r r.command before behind
+  pub taken : Takes old new behind
+
+-- what stands behind the head of a reply: the data that a read answers
+abbrev pub told : Command → Errno → List ℕ → List ℕ
+told Read Done answered = answered
+told _ _ answered = []
+
+-- how many bytes these are
+abbrev pub told_length : Command → Errno → ℕ → ℕ
+told_length Read Done count = count
+told_length _ _ count = 0
+
+-- the bytes of a reply
+abbrev pub reply_to : Request → Errno → List ℕ → List ℕ
+reply_to r reply answered = reply_bytes (record { error = reply; handle = r.handle }) ++ told r.command reply answered
+
+-- nothing was asked of the disk
+abbrev pub IsQuiet : Ended → Type 0
+IsQuiet WriteFault = ⊥
+IsQuiet NoPower = ⊥
+IsQuiet _ = Unit {0}
+
+-- how a disk answers
+abbrev pub Answering : Type 0 → Type 1
+Answering K = K → K → Request → List ℕ → List ℕ → Errno → Type 0
+
+-- a request was taken, and asked of the disk
+pub record Asks {K : Type 0} (answers : Answering K) (disk next : K) (from left : List Event) : Type 0 where
+  pub request : Request
+  pub spelled : IsRequest request
+  pub before : List ℕ
+  pub after : List ℕ
+  pub long : length after ≡ data_length request
+  pub behind : List ℕ
+  pub is_behind : IsBehind request request.command before behind
+  pub taken : Takes from left (request_bytes request ++ behind)
+  pub reply : Errno
+  pub asked : answers disk next request before after reply
+
+-- and answered, once and with its handle
+pub record AnswersOne {K : Type 0} (answers : Answering K) (disk next : K) (from left to given : List Event) : Type 0 where
+  pub asks : Asks answers disk next from left
+  pub replied : given ≡ to ++ moved (reply_to asks.request asks.reply asks.after) ∷ []
+
+-- requests were answered, each once, in their order
+pub data AnswersAll {K : Type 0} (answers : Answering K) (disk : K) (from to : List Event) : K → List Event → List Event → Type 0 where
+  none : AnswersAll answers disk from to disk from to
+  more : {mid next : K} {left rest given all : List Event} → AnswersAll answers disk from to mid left given → AnswersOne answers mid next left rest given all → AnswersAll answers disk from to next rest all
+
+-- How the next request is not answered: where it did not come whole, is not the protocol or says that the client leaves, the disk is
+-- as it was and nothing is given; else it was asked of the disk, and the reply was not given.
+abbrev pub EndsSo : {K : Type 0} → Answering K → Ended → K → K → List Event → List Event → List Event → List Event → Type 0
+EndsSo answers WriteFault disk next from left to given = Asks answers disk next from left
+EndsSo answers NoPower disk next from left to given = Asks answers disk next from left × (given ≡ to)
+EndsSo answers _ disk next from left to given = (next ≡ disk) × (given ≡ to)
+
+-- requests were answered, and the next was not
+pub record EndsAfter {K : Type 0} (answers : Answering K) (ended : Ended) (disk last : K) (from left to given : List Event) : Type 0 where
+  pub mid : K
+  pub taken : List Event
+  pub told_to : List Event
+  pub answered : AnswersAll answers disk from to mid taken told_to
+  pub ends : EndsSo answers ended mid last taken left told_to given

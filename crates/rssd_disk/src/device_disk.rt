@@ -1,0 +1,138 @@
+//! A device as a disk: after a failed change call, which stops the device, it is mounted again before the next request.
+ghost use Rattle.std.specs.Prelude.{◌≡◌, ◌↔◌, ℕ, List, IfOk, IfSome, IsTrue, length};
+ghost use Rattle.nbd_wire.specs.declared.request.Request.{Request as Asked};
+ghost use Rattle.nbd_wire.specs.declared.reply.Errno.{Errno as Reply};
+ghost use Rattle.rssd_disk.specs.Held.{IsHeld, IsReady, Runs, Gives, ComesFrom};
+ghost use Rattle.rssd_disk.specs.Rules.{data_length};
+
+use crate::request::{answer_request, size_of};
+use cell_die::PowerDie;
+use nbd_wire::{Errno, Request};
+use rssd_core::device::{Device, Plan, Refused};
+use std::alloc::Global;
+use striped::Scheme;
+
+/// Bytes that requests read and change.
+pub trait Disk {
+    /// It has what it needs to answer.
+    ghost held: { Self → Type 0 };
+
+    /// What an answered request leaves: of the disk before and after, the request, the data before and after, and the reply.
+    ghost answers: { Self → Self → Asked → List ℕ → List ℕ → Reply → Type 0 };
+
+    /// How many bytes there are.
+    fn size(&self) -> u64;
+
+    /// Answers a request. `bytes` are those of a write, and afterwards those of a read.
+    fn answer(&mut self, alloc: Global, request: &Request, bytes: &mut [u8]) -> Errno
+        requires held { held self.old }
+        requires room { length bytes.old ≡ data_length request.now }
+        ensures held { held self.new }
+        ensures answered { answers self.old self.new request.now bytes.old bytes.new result };
+
+    /// Whether the machine still has power: without it, nothing is answered.
+    fn has_power(&self) -> bool;
+}
+
+/// A device, or after a mount that was refused the die alone with its scheme.
+#[derive(Drop)]
+pub struct DeviceDisk<D: PowerDie + Drop, C: Scheme + Drop, F: Device<D, C>> {
+    mounted: Option<F>,
+    closed: Option<(D, C)>,
+    plan: Plan,
+    size: u64,
+}
+
+impl<D: PowerDie + Drop, C: Scheme + Drop, F: Device<D, C>> DeviceDisk<D, C, F> {
+    /// A disk on a die that is mounted.
+    pub fn start(alloc: Global, die: D, scheme: C, plan: Plan) -> Result<Self, Refused<D, C>>
+        ensures { IfOk result (λ new. IsHeld F.device new.mounted new.closed) }
+    {
+        match F::mount(alloc, die, scheme, plan) {
+            Ok(ftl) => {
+                let size = size_of(&ftl);
+                Ok(DeviceDisk {
+                    mounted: Some(ftl),
+                    closed: None,
+                    plan,
+                    size,
+                })
+            }
+            Err(refused) => Err(refused),
+        }
+    }
+
+    /// Takes the die and the scheme out.
+    fn close(&mut self) -> (D, C)
+        requires { IsHeld F.device self.old.mounted self.old.closed }
+        ensures gives { Gives D.state C.meaning F.device self.old.mounted self.old.closed result }
+        ensures plan { self.new.plan ≡ self.old.plan }
+    {
+        match self.mounted.take() {
+            Some(ftl) => ftl.close(),
+            None => match self.closed.take() {
+                Some(held) => held,
+                None => unreachable!(),
+            },
+        }
+    }
+
+    /// Whether the device runs.
+    fn runs(&self) -> bool
+        ensures { IsTrue result ↔ Runs F.device self.now.mounted }
+    {
+        match &self.mounted {
+            Some(ftl) => !ftl.stopped(),
+            None => false,
+        }
+    }
+
+    /// Mounts the die again where the device does not run.
+    fn ready(&mut self, alloc: Global)
+        requires { IsHeld F.device self.old.mounted self.old.closed }
+        ensures ready { IsReady F.device self.new.mounted self.new.closed }
+        ensures comes { IfSome self.new.mounted (λ ftl. ComesFrom D.state C.meaning F.device self.old.plan self.old.mounted self.old.closed (F.device ftl)) }
+    {
+        if self.runs() {
+            return;
+        }
+        let (die, scheme) = self.close();
+        match F::mount(alloc, die, scheme, self.plan) {
+            Ok(ftl) => self.mounted = Some(ftl),
+            Err(refused) => {
+                self.mounted = None;
+                self.closed = Some((refused.die, refused.scheme));
+            }
+        }
+    }
+}
+
+impl<D: PowerDie + Drop, C: Scheme + Drop, F: Device<D, C>> Disk for DeviceDisk<D, C, F> {
+    ghost use Rattle.rssd_disk.specs.Held.{IsHeld, AnswersHeld};
+
+    ghost held = { λ s. IsHeld F.device s.mounted s.closed };
+
+    ghost answers = { λ old new request before after reply. AnswersHeld D.state C.meaning F.device old.plan old.mounted old.closed new.mounted request before after reply };
+
+    fn size(&self) -> u64 {
+        self.size
+    }
+
+    fn answer(&mut self, alloc: Global, request: &Request, bytes: &mut [u8]) -> Errno {
+        self.ready(alloc);
+        match &mut self.mounted {
+            Some(ftl) => answer_request(ftl, request, bytes),
+            None => Errno::InputOutput,
+        }
+    }
+
+    fn has_power(&self) -> bool {
+        match &self.mounted {
+            Some(ftl) => ftl.die().powered(),
+            None => match &self.closed {
+                Some((die, _)) => die.powered(),
+                None => true,
+            },
+        }
+    }
+}
