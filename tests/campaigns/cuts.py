@@ -10,7 +10,7 @@ COUNT, SMALL_COUNT = 1, 600
 WHAT = "cuts"
 CAMPAIGN = os.environ.get("CUT_CAMPAIGN") or os.path.join(TOP, "crates", "cut_campaign", "out", "cut_campaign")
 HINT = "cd crates/cut_campaign && rt run"
-LINES = {**{name: 4 for name in SMALL}, **{name: 2 for name in LARGE}}
+LINES = {**{name: 4 for name in SMALL}, **{name: 3 for name in LARGE}}
 NOTED = ("scripts", "cut again", "failed reads", "mounts", "sectors read")
 
 

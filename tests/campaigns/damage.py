@@ -1,10 +1,10 @@
 """damage: images of small dies of all nine schemes, of version 2 and of version 1, with each byte changed to each of its 255 other
-values, each length that is too short, and pairs of bytes at random. `run` and `upgrade`, and `audit` where the program has it,
+values, each length that is too short, headers forged with their right sums, and pairs of bytes at random. `run` and `upgrade`, and `audit` where the program has it,
 have to end by the status, with the replies and with the image that a second reading of docs/FORMATS.md and of the device gives.
 In sectors of 512 bytes the main bytes are changed to four other values each, since they are many and alike."""
-from shared import LARGE, MAGIC, SCHEMES, VERSION_1_SCHEMES, Differs, Folder, Head, Image, On, Refused, digits, image_bytes, policy, read_head, seeded, text_of
+from shared import LARGE, MAGIC, SCHEMES, SOUND_SEQS, VERSION_1_SCHEMES, Differs, Folder, Head, Header, Image, On, Refused, digits, image_bytes, lies_below_a_header, policy, read_head, seeded, text_of
 
-COUNT, SMALL_COUNT = 1_526_678, 2_000
+COUNT, SMALL_COUNT = 1_579_318, 1_500
 PAIRS = 4_000
 WHAT = "damaged images"
 LIFE = ["write 0 01", "write 0 03", "write 0 05", "trim 0", "write 0 a5", "write 0 5a", "idle 2", "write 0 11"]
@@ -39,8 +39,23 @@ def with_bytes(data, *changes):
     return bytes(damaged)
 
 
+def forged(head, data):
+    """Each slot with each of some headers, whose sum is right, its gate charged or not."""
+    begin, scheme = 28 if data[8] == 1 else 32, head.scheme
+    for page in range(head.page_count):
+        for slot in range(scheme.generations):
+            at = begin + page * scheme.whole_page + scheme.page_bytes + 16 * slot
+            for sector in range(head.sectors + 1):
+                for seq in (*range(1, 11), 2**62 - 1, 2**62, 2**62 + 2**20, 2**64 - 1):
+                    for kind in (1, 2, 3, 4):
+                        for gate in (0, 1):
+                            word = bytes([gate]) + policy.header_word(Header(sector, seq, kind))
+                            yield data[:at] + word + data[at + 15 :]
+
+
 def damages(head, data, rng):
     """All damages of an image."""
+    yield from forged(head, data)
     for place in range(len(data)):
         few = head.scheme.name in LARGE and is_main(head, data, place)
         for by in rng.sample(range(1, 256), 4) if few else range(1, 256):
@@ -97,16 +112,29 @@ def wanted_of_upgrade(data):
     return 0, [], image_bytes(head, data[begin:])
 
 
+def verdict(image):
+    """The first finding against sound cells, or None."""
+    valid = [record for record in image.records if record.header is not None]
+    for record in image.records:
+        if record.header is None and not lies_below_a_header(record.word):
+            return f"unsound header {record.page} {record.slot}"
+    for number, record in enumerate(valid):
+        for other in valid[number + 1 :]:
+            if other.header.seq == record.header.seq:
+                return f"unsound seq {record.page} {record.slot} {other.page} {other.slot}"
+    if image.spare is None:
+        return "unsound spare"
+    return next((f"unsound number {record.page} {record.slot}" for record in valid if record.header.seq >= SOUND_SEQS), None)
+
+
 def wanted_of_audit(data):
-    """The status, and the lines where they are known: a cause has a text of its own."""
+    """The status, and the lines; those of sectors may come in any order."""
     refused = refusal(data, False)
     if refused:
         return 4, [refused]
     image = Image(data)
-    if image.faults():
-        return 8, None
-    held = ((sector, digits(image.holds(sector))) for sector in range(image.head.sectors))
-    return 0, ["sound", *(f"{sector} {row}" for sector, row in held if row != "-")]
+    unsound = verdict(image)
+    return (8, [unsound]) if unsound else (0, ["sound", *(f"{sector} {digits(image.holds(sector))}" for sector in image.live)])
 
 
 def compare(where, wanted, got):
@@ -129,9 +157,9 @@ def judge_upgrade(folder, where, data, counts):
 
 
 def judge_audit(folder, where, data, counts):
-    status, replies = wanted_of_audit(data)
-    got = folder.call(["audit"])
-    compare(f"{where}: audit", (status, text_of(replies) if replies else got[1]), got)
+    status, lines = wanted_of_audit(data)
+    got, out = folder.call(["audit"])
+    compare(f"{where}: audit", (status, sorted(lines)), (got, sorted(out.decode().split("\n")[:-1])))
     counts["sound" if status == 0 else "unsound" if status == 8 else "refused by audit"] += 1
 
 

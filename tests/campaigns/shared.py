@@ -25,7 +25,7 @@ def load_policy():
 
 
 policy = load_policy()
-from formats import MAGIC, SCHEMES, VERSION_1_SCHEMES, Head, Refused, read_head  # noqa: E402, F401
+from formats import MAGIC, SCHEMES, SOUND_SEQS, VERSION_1_SCHEMES, Head, Header, Refused, lies_below_a_header, read_head  # noqa: E402, F401
 from image import Image, digits  # noqa: E402, F401
 
 SMALL = ("plain16", "rs16", "coset16", "flip16", "ham16")
