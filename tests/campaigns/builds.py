@@ -1,6 +1,7 @@
 """builds: the program as LLVM builds it, and as Rattle's own compiler does, on the scripts of `model` and on damaged images: the same
 status, the same bytes printed, the same image."""
 import os
+import shlex
 
 import damage
 import model
@@ -8,7 +9,7 @@ from shared import TOP, Differs, Folder, blank_image, seeded, text_of
 
 COUNT, SMALL_COUNT = 10_000, 400
 WHAT = "scripts and images"
-OTHER = os.environ.get("RSSD_OTHER") or os.path.join(TOP, "build", "rssd.rattle")
+OTHER = shlex.split(os.environ.get("RSSD_OTHER") or "") or [os.path.join(TOP, "build", "rssd.rattle")]
 HINT = "cd crates/rssd_cli && rt run --backend rattle; cp out/rssd_cli ../../build/rssd.rattle; rt run"
 
 
@@ -28,8 +29,8 @@ def compare(one, other, where, *call):
 
 
 def run(share, count, counts):
-    if not os.access(OTHER, os.X_OK):
-        print(f"    not tried, since there is no {OTHER}: {HINT}")
+    if not os.access(OTHER[0], os.X_OK):
+        print(f"    not tried, since there is no {OTHER[0]}: {HINT}")
         return
     bases = [base for _, base in damage.bases()]
     with Folder() as one, Folder(OTHER) as other:

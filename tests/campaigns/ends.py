@@ -174,7 +174,7 @@ def through_fifos(folder, tick, counts):
             writer = threading.Thread(target=feed, args=(target, (data[:at], data[at:])))
             writer.start()
             with open(fifo, "rb") if name == "script" else subprocess.Popen(["printf", "%s", script.decode()], stdout=subprocess.PIPE).stdout as given:
-                done = subprocess.run([folder.program, *words], stdin=given, stdout=subprocess.PIPE, cwd=folder.path)
+                done = subprocess.run([*folder.command, *words], stdin=given, stdout=subprocess.PIPE, cwd=folder.path)
             writer.join()
             os.unlink(target)
             if (done.returncode, done.stdout, folder.taken()) != whole[:3]:
@@ -196,7 +196,7 @@ def limits_on_files(folder, tick, counts):
             signal.signal(signal.SIGXFSZ, signal.SIG_IGN)
             resource.setrlimit(resource.RLIMIT_FSIZE, (most, most))
 
-        status = subprocess.run([folder.program, "format", *head.words], cwd=folder.path, stdin=subprocess.DEVNULL, preexec_fn=limited).returncode
+        status = subprocess.run([*folder.command, "format", *head.words], cwd=folder.path, stdin=subprocess.DEVNULL, preexec_fn=limited).returncode
         new, wanted = folder.taken(), (0, image) if limit >= len(image) else (6, Ends.OLD)
         if (status, new) != wanted or len(os.listdir(folder.path)) > 1:
             raise Differs(f"a limit of {limit} bytes: status {status}, {os.listdir(folder.path)}")
@@ -211,7 +211,7 @@ def full_device(folder, tick, counts):
         if image is not None:
             folder.put(image)
         with open("/dev/full", "wb") as full:
-            done = subprocess.run([folder.program, *words], input=script, stdout=full, cwd=folder.path)
+            done = subprocess.run([*folder.command, *words], input=script, stdout=full, cwd=folder.path)
         new = folder.taken()
         prints = words[0] in ("replay", "run", "make")
         if done.returncode != (6 if prints else 0) or prints and new is not None:

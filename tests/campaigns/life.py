@@ -47,7 +47,7 @@ def call(folder, script):
     with open(path, "wb") as file:
         file.write(script)
     with open(path, "rb") as given, open(os.path.join(folder.path, "replies"), "w+b") as out:
-        child = subprocess.Popen([folder.program, "run"], stdin=given, stdout=out, cwd=folder.path)
+        child = subprocess.Popen([*folder.command, "run"], stdin=given, stdout=out, cwd=folder.path)
         _, status, used = os.wait4(child.pid, 0)
         child.returncode = status
         out.seek(0)

@@ -3,6 +3,7 @@ import importlib.machinery
 import importlib.util
 import os
 import random
+import shlex
 import shutil
 import struct
 import subprocess
@@ -12,7 +13,8 @@ import tempfile
 sys.dont_write_bytecode = True
 TOP = os.path.dirname(os.path.dirname(os.path.dirname(os.path.realpath(__file__))))
 sys.path.insert(0, os.path.join(TOP, "tools", "lib"))
-PROGRAM = os.path.abspath(os.environ.get("RSSD") or os.path.join(TOP, "build", "rssd"))
+# The command that is the program: RSSD may name another one, also with words before the program.
+COMMAND = shlex.split(os.environ.get("RSSD") or "") or [os.path.join(TOP, "build", "rssd")]
 
 
 def load_policy():
@@ -54,9 +56,9 @@ def text_of(lines):
 class Folder:
     """A folder of its own, in memory where there is one, that the program is called in."""
 
-    def __init__(self, program=PROGRAM):
+    def __init__(self, command=COMMAND):
         self.path = tempfile.mkdtemp(prefix="campaign-", dir="/dev/shm" if os.path.isdir("/dev/shm") else None)
-        self.program = program
+        self.command = command
         self.image, self.new = os.path.join(self.path, "die.img"), os.path.join(self.path, "die.new")
 
     def __enter__(self):
@@ -73,7 +75,7 @@ class Folder:
         """The status and what was printed."""
         how = {"stdout": subprocess.PIPE, "stderr": subprocess.DEVNULL, "cwd": self.path, "env": environment, "close_fds": False}
         try:
-            done = subprocess.run([self.program, *words], input=script, timeout=60, **how)
+            done = subprocess.run([*self.command, *words], input=script, timeout=60, **how)
         except subprocess.TimeoutExpired:
             raise Differs(f"{' '.join(words)}: no answer in a minute") from None
         return done.returncode, done.stdout
