@@ -8,20 +8,21 @@ from shared import LARGE, SMALL, TOP, Differs
 
 COUNT, SMALL_COUNT = 1, 600
 WHAT = "cuts"
-CAMPAIGN = os.environ.get("CUT_CAMPAIGN") or os.path.join(TOP, "crates", "cut_campaign", "out", "cut_campaign")
-HINT = "cd crates/cut_campaign && rt run"
+BUILT = [os.path.join(TOP, *folders, "cut_campaign") for folders in (("build",), ("crates", "cut_campaign", "out"))]
+HINT = "(cd crates/cut_campaign && rt run -- rs16 1 0 1)"
 LINES = {**{name: 4 for name in SMALL}, **{name: 3 for name in LARGE}}
 NOTED = ("scripts", "cut again", "failed reads", "mounts", "sectors read")
 
 
 def run(share, count, counts):
     """Every `count`-th script."""
-    if not os.access(CAMPAIGN, os.X_OK):
-        print(f"    not tried, since there is no {CAMPAIGN}: {HINT}")
+    program = next((path for path in BUILT if os.access(path, os.X_OK)), None)
+    if program is None:
+        print(f"    not tried, since there is no {BUILT[1]}: {HINT}")
         return
     for name, lines in LINES.items():
         words = [name, str(lines), str(share.shard), str(share.of * count)]
-        done = subprocess.run([CAMPAIGN, *words], stdout=subprocess.PIPE, stderr=subprocess.DEVNULL, text=True)
+        done = subprocess.run([program, *words], stdout=subprocess.PIPE, stderr=subprocess.DEVNULL, text=True)
         for number, word in re.findall(r"(\d+) (scripts|cuts|cut again|failed reads|mounts|sectors read)", done.stdout.split("\n")[0]):
             counts["cases" if word == "cuts" else word] += int(number)
         if done.returncode:
