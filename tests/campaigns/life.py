@@ -3,7 +3,6 @@ that the call before it left. A plain array judges every read; the memory at its
 and those of the last quarter of the calls are set beside those of the first."""
 import os
 import subprocess
-import time
 
 from shared import SCHEMES, Differs, Folder, Head, blank_image, seeded
 
@@ -41,13 +40,12 @@ def lines_of(rng, head, array, most):
 
 
 def call(folder, script):
-    """The replies of one call, its seconds of processor time and its peak memory in KiB."""
-    begin = time.monotonic()
-    path = os.path.join(folder.path, "script")
+    """The replies of one call, its seconds of processor time, and its peak memory in KiB, which `time` tells."""
+    path, told = os.path.join(folder.path, "script"), os.path.join(folder.path, "told")
     with open(path, "wb") as file:
         file.write(script)
     with open(path, "rb") as given, open(os.path.join(folder.path, "replies"), "w+b") as out:
-        child = subprocess.Popen([*folder.command, "run"], stdin=given, stdout=out, cwd=folder.path)
+        child = subprocess.Popen(["/usr/bin/time", "-f", "%M", "-o", told, *folder.command, "run"], stdin=given, stdout=out, cwd=folder.path)
         _, status, used = os.wait4(child.pid, 0)
         child.returncode = status
         out.seek(0)
@@ -55,7 +53,8 @@ def call(folder, script):
     if status:
         raise Differs(f"status {status}")
     os.replace(folder.new, folder.image)
-    return replies, used.ru_utime, used.ru_maxrss, time.monotonic() - begin
+    with open(told) as file:
+        return replies, used.ru_utime, int(file.read())
 
 
 def judge(where, script, wanted, replies):
@@ -75,7 +74,7 @@ def live(device, share, most, counts):
         folder.put(blank_image(head))
         while done < most:
             script, wanted = lines_of(rng, head, array, min(MOST_LINES, most - done))
-            replies, seconds, memory, _ = call(folder, script)
+            replies, seconds, memory = call(folder, script)
             judge(f"{' '.join(head.words)} after {done} lines", script, wanted, replies)
             done, peak = done + len(wanted), max(peak, memory)
             calls.append(1e6 * seconds / len(wanted))
