@@ -6,13 +6,16 @@ from formats import BLOCKS, MOST_ARMED, MOST_DIE_BYTES, MOST_SCRIPT_BYTES, MOST_
 HEAD = ("SCHEME", "BLOCKS", "PAGES", "SECTORS", "REUSE")
 COMMANDS = {
     "replay": HEAD,
-    "run": (),
     "format": HEAD,
+    "run": (),
     "make": ("SEED", "COUNT", *HEAD),
     "upgrade": (),
 }
-TO_COME = ("queue", "worn", "pair", "audit")
-READ_A_SCRIPT = ("replay", "run")
+TO_COME = [name for name in ("queue", "worn", "pair", "audit") if name not in COMMANDS]
+READ_A_SCRIPT = (
+    "replay",
+    "run",
+)
 MOST_COUNT = 20_000
 LINES = {"write": 2, "read": 1, "trim": 1, "idle": 1, "cut": 2, "failread": 1, "mount": 0, "stat": 0}
 
