@@ -21,7 +21,7 @@ pub mod upgrade;
 pub mod workload;
 
 use rssd_io::{Sink, WriteFault};
-use rssd_script::{Line, Reply, print_reply};
+use rssd_script::{Line, Reply, ReplyText};
 use std::alloc::Global;
 
 /// What a session is to those that step its lines.
@@ -53,9 +53,11 @@ pub fn run_lines<S: Stepping, O: Sink>(
     ensures fault { OnErr result (HasFailed (O.log out.old) (O.log out.new)) }
     ensures keeps { (d : Numbers) → HasNumbers d (S.session session.old).holding → KeepsSession d (S.session session.old) (S.session session.new) }
 {
+    let mut text = ReplyText::new();
     for line in lines {
         let reply = session.step(alloc, line);
-        out.give(print_reply(&reply).as_slice())?;
+        text.set(&reply);
+        out.give(text.as_slice())?;
     }
     Ok(())
 }

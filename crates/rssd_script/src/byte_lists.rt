@@ -1,8 +1,9 @@
 //! The bytes of a write, of a read and of a reply's text: each is seen as the list of its bytes.
 
-ghost use Rattle.std.specs.Prelude.{◌≡◌, ◌≤◌, length, IfOk};
+ghost use Rattle.std.specs.Prelude.{◌≡◌, ◌≤◌, [], length, IfOk};
 
-use crate::OutOfMemory;
+use crate::print::put_reply_line;
+use crate::{OutOfMemory, Reply};
 use arrayvec::ArrayVec;
 use std::alloc::Global;
 use std::marker::Model;
@@ -107,10 +108,22 @@ impl Model for ReplyText {
 }
 
 impl ReplyText {
-    pub(crate) fn from_bytes(bytes: ArrayVec<u8, 1100>) -> ReplyText
-        ensures { result ≡ bytes.items }
+    ghost use Rattle.rssd_script.specs.Replies.{reply_line};
+
+    /// Empty room for the text of one reply.
+    pub fn new() -> ReplyText
+        ensures { result ≡ [] }
     {
-        ReplyText { bytes }
+        ReplyText {
+            bytes: ArrayVec::new(),
+        }
+    }
+
+    /// Puts the text of a reply here, with its line feed, in the place of what stands here.
+    pub fn set(&mut self, reply: &Reply)
+        ensures { self.new ≡ reply_line reply.now }
+    {
+        put_reply_line(&mut self.bytes, reply);
     }
 
     /// The list.

@@ -11,7 +11,7 @@ use itoa::Buffer;
 use std::alloc::Global;
 
 /// Room for one text.
-type TextRoom = ArrayVec<u8, 1100>;
+pub(crate) type TextRoom = ArrayVec<u8, 1100>;
 
 /// Adds bytes at the end.
 fn put(text: &mut TextRoom, more: &[u8])
@@ -32,17 +32,30 @@ fn put_number(text: &mut TextRoom, n: u64)
     put(text, buffer.format(n).as_bytes());
 }
 
-/// Adds the digits of bytes.
+/// Adds the digits of bytes, which are made in this room.
+fn put_digits(text: &mut TextRoom, bytes: &[u8], room: &mut [u8])
+    requires fits { 2 * length bytes.now ≤ length room.old }
+    requires room { length text.old.items + 2 * length bytes.now ≤ 1100 }
+    ensures items { text.new.items ≡ text.old.items ++ hex_of bytes.now }
+    ensures len { length text.new.items ≡ length text.old.items + 2 * length bytes.now }
+{
+    let digits = &mut room[..2 * bytes.len()];
+    let _ = hex::encode_to_slice(bytes, digits);
+    put(text, digits);
+}
+
+/// Adds the digits of bytes; few of them take little room.
 fn put_hex(text: &mut TextRoom, bytes: &[u8])
     requires few { length bytes.now ≤ 512 }
     requires room { length text.old.items + 2 * length bytes.now ≤ 1100 }
     ensures items { text.new.items ≡ text.old.items ++ hex_of bytes.now }
     ensures len { length text.new.items ≡ length text.old.items + 2 * length bytes.now }
 {
-    let mut digits = [0u8; 1024];
-    let digits = &mut digits[..2 * bytes.len()];
-    let _ = hex::encode_to_slice(bytes, digits);
-    put(text, digits);
+    if bytes.len() <= 16 {
+        put_digits(text, bytes, &mut [0u8; 32]);
+    } else {
+        put_digits(text, bytes, &mut [0u8; 1024]);
+    }
 }
 
 /// Adds HEX.
@@ -172,12 +185,20 @@ fn put_reply(text: &mut TextRoom, reply: &Reply)
     }
 }
 
+/// Puts a reply's text with its line feed in the place of what stands here.
+pub(crate) fn put_reply_line(text: &mut TextRoom, reply: &Reply)
+    ensures { text.new.items ≡ reply_line reply.now }
+{
+    text.clear();
+    put_reply(text, reply);
+    put(text, b"\n");
+}
+
 /// A reply's text, with its line feed.
 pub fn print_reply(reply: &Reply) -> ReplyText
     ensures { result ≡ reply_line reply.now }
 {
-    let mut text = ArrayVec::new();
-    put_reply(&mut text, reply);
-    put(&mut text, b"\n");
-    ReplyText::from_bytes(text)
+    let mut text = ReplyText::new();
+    text.set(reply);
+    text
 }

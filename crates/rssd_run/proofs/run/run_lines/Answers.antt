@@ -27,7 +27,7 @@ loop-line-preserved g c =
     let reply = c.step-reply.result in
     let more : take (i + 1) lines ≡ take i lines ++ line ∷ [] = take_more lines i line (omega arith) ∙ ap (λ item. take i lines ++ item ∷ []) (sym c.line-item.is) in
     let among : All (λ l. is_cut l ≡ false) lines → is_cut line ≡ false = λ all. ap is_cut c.line-item.is ∙ All-get_or (λ l. is_cut l ≡ false) lines i line (omega arith) all in
-    let text : c.as_slice.result.now ≡ reply_line reply = c.as_slice.ensures ∙ c.print_reply.ensures in
+    let text : c.as_slice.result.now ≡ reply_line reply = c.as_slice.ensures ∙ c.set.ensures in
     let given = subst (λ (xs : List ℕ). log c.give.new.self ≡ log c.loop-line.out ++ moved xs ∷ []) text c.in_ok-give.ensures.log in
     record {
       numbers = λ d numbers. c.step-reply.ensures.numbers d (c.loop-line.invariant.numbers d numbers);
@@ -63,7 +63,7 @@ returns-in_err-give-clause-err g c =
     let more : take (i + 1) lines ≡ take i lines ++ line ∷ [] = take_more lines i line (omega arith) ∙ ap (λ item. take i lines ++ item ∷ []) (sym c.line-item.is) in
     let count : i ≡ length (take i lines) = omega (arith, length-take i lines) in
     let front : take i lines ++ line ∷ [] ≡ take (length (take i lines) + 1) lines = sym more ∙ ap (λ (n : ℕ). take (n + 1) lines) count in
-    let text : c.as_slice.result.now ≡ reply_line reply = c.as_slice.ensures ∙ c.print_reply.ensures in
+    let text : c.as_slice.result.now ≡ reply_line reply = c.as_slice.ensures ∙ c.set.ensures in
     let given = subst (λ (xs : List ℕ). log c.give.new.self ≡ log c.loop-line.out ++ moved (take c.in_err-give.ensures.log.0 xs) ∷ failed ∷ []) text c.in_err-give.ensures.log.1 in
     on_err c.from_residual.result _ (λ d numbers before shows calm.
     let so = c.loop-line.invariant.runs d numbers before shows calm in

@@ -6,7 +6,7 @@ use Rattle.hex.specs.Hex.{encode_lower}
 use Rattle.rssd_script.specs.Text.{AreBytes}
 use Rattle.rssd_script.proofs.HexTexts.{encode_lower-is}
 use Rattle.rssd_script.proofs.Steps.{at_ok}
-use Rattle.rssd_script.proofs.print.put_hex.Goals as goal
+use Rattle.rssd_script.proofs.print.put_digits.Goals as goal
 
 pub returns-clause-items : goal.returns-clause-items
 returns-clause-items c =
