@@ -1,5 +1,5 @@
 -- What a line on a device leaves has the device's numbers, and its die keeps what calls of it keep.
-use Rattle.std.proofs.Common.{◌≡◌, ℕ, List, refl, sym, ap, subst}
+use Rattle.std.proofs.Common.{◌≡◌, ℕ, List, refl, sym, subst}
 use Rattle.cell_die.specs.Calls.{Kept}
 use Rattle.cell_die.proofs.Sequences.{kept_refl}
 use Rattle.rssd_script.specs.declared.lines.Line.{Line}

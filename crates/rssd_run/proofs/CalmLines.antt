@@ -1,5 +1,5 @@
 -- A line that arms nothing and mounts nothing leaves a calm session calm, and its reply is no fault.
-use Rattle.std.proofs.Common.{◌≡◌, inl, ℕ, false, List, [], ◌∷◌, ◌++◌, slice_index_or, refl, ap, ◌∙◌, subst}
+use Rattle.std.proofs.Common.{◌≡◌, inl, ℕ, false, List, [], ◌∷◌, ◌++◌, slice_index_or, refl, ap, ◌∙◌}
 use Rattle.rssd_script.specs.declared.lines.Line.{Line}
 use Rattle.rssd_script.specs.declared.lines.Line.TheVariants.{Write, Read, Trim, Idle, Stat}
 use Rattle.rssd_script.specs.declared.replies.Reply.{Reply}

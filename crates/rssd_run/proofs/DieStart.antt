@@ -25,6 +25,7 @@ use Rattle.rssd_run.specs.Run.{RunsSession, CutsOffSession, CalmFor}
 use Rattle.rssd_run.specs.Schemes.{meaning_named, HasRow}
 use Rattle.rssd_run.specs.Shows.{Holding, Mounted, Closed, Nothing, SessionValue, ShowsHolding, Starts, HasNumbers, HasDie, KeepsSession}
 use Rattle.rssd_run.specs.Step.{KeepsDie}
+use Rattle.rssd_run.specs.Exchanges.{AnswersAll, AnswersFront}
 use Rattle.rssd_run.proofs.Came.{went_tells, passed_went}
 use Rattle.rssd_run.proofs.Parts.{keeps_more}
 use Rattle.rssd_run.proofs.Still.{keeps_die}
@@ -106,6 +107,7 @@ starts_named head die session starts =
         same = none_added device.view starts.mounts.counts;
         rows = ap On rows;
       };
+      starts = starts;
       shows = subst (λ (h : Holding). ShowsHolding d session.base h (on d none device)) (sym starts.holding)
           (subst (λ (b : Tallies). ShowsHolding d b (Mounted device) (on d none device)) (sym starts.base) (refl, runs device.stopped starts.mounts.running (rows_of d device.view)));
       numbers = subst (HasNumbers d) (sym starts.holding) starts.mounts.numbers;
@@ -163,14 +165,16 @@ named_shape head =
 
 module _ (head : ImageHead) (die : DieState) (lines : List Line) (log log_after : List Act) (ready : IsReady head die) (old new : SessionValue) (starts : StartsOn head die old) where
   pub runs_on : (last : DieState) → last.shape ≡ geometry_shape (numbers_named head).geometry → HasDie last new.holding → KeepsSession (numbers_named head) old new → Grows log log_after
+      → AnswersAll (numbers_named head) old lines new log log_after
       → RunsSession (numbers_named head) lines old new log log_after → RunsOn head die lines log log_after last
-  runs_on last shape has keeps grew session_runs = record {
+  runs_on last shape has keeps grew answers session_runs = record {
     shape = shape ∙ named_shape head;
     grew = grew;
     keeps = (
         let after = keeps starts.mounted starts.has in
         subst (λ (x : DieState). KeepsDie (numbers_named head) die x) (one_die new.holding after.0 last after.1 has)
         (keeps_more (numbers_named head) die starts.mounted after.0 starts.keeps after.2));
+    answers = record { first = old; starts = starts.starts; session = new; has = has; answers = answers };
     before = starts.view;
     start = starts.start;
     run = λ calm.
@@ -178,8 +182,9 @@ module _ (head : ImageHead) (die : DieState) (lines : List Line) (log log_after 
         record { after = to.0; die = shown_die (numbers_named head) new.base new.holding to.0 last to.1 has; run = to.2 };
   }
 
-  pub runs_front_on : CutsOffSession (numbers_named head) lines old new log log_after → RunsFrontOn head die lines log log_after
-  runs_front_on cut_off = record {
+  pub runs_front_on : AnswersFront (numbers_named head) old lines new log log_after → CutsOffSession (numbers_named head) lines old new log log_after → RunsFrontOn head die lines log log_after
+  runs_front_on answers cut_off = record {
+    answers = record { first = old; starts = starts.starts; session = new; answers = answers };
     before = starts.view;
     start = starts.start;
     run = λ calm. let to = cut_off starts.view starts.shows (calm_before head die starts.view lines ready.quiet starts.start calm) in record { after = to.0; run = to.2 };

@@ -64,7 +64,7 @@ module _ {D C F : Type 0} (state : D → DieState) (meaning : C → Meaning) (de
   abbrev held : D × C → DieState × Meaning
   held pair = (state pair.0, meaning pair.1)
 
-  mounted_holding : (p : Parts D C F) (ftl : F) → p.mounted ≡ Some ftl → (session_of state meaning device p).holding ≡ Mounted (device ftl)
+  pub mounted_holding : (p : Parts D C F) (ftl : F) → p.mounted ≡ Some ftl → (session_of state meaning device p).holding ≡ Mounted (device ftl)
   mounted_holding p ftl is = ap (λ m. holding_of p.plan (option_map device m) (option_map held p.closed)) is
 
   -- ---- lines, where p are the fields and old is the value that they were
@@ -100,7 +100,7 @@ module _ {D C F : Type 0} (state : D → DieState) (meaning : C → Meaning) (de
         subst (λ (q : Parts D C F). StepsSession d Stat reply (session_of state meaning device q) (session_of state meaning device q)) is
         (stat_steps d p.plan (session_of state meaning device p) reply session.held session.small numbers_of_fields says)
 
-  closed_holding : (p : Parts D C F) (pair : D × C) → p.mounted ≡ None → p.closed ≡ Some pair
+  pub closed_holding : (p : Parts D C F) (pair : D × C) → p.mounted ≡ None → p.closed ≡ Some pair
       → (session_of state meaning device p).holding ≡ Closed (numbers_of (state pair.0).shape (meaning pair.1) p.plan) (state pair.0)
   closed_holding p pair none some = λ i. holding_of p.plan (option_map device (none i)) (option_map held (some i))
 
@@ -200,7 +200,7 @@ module _ {D C F : Type 0} (state : D → DieState) (meaning : C → Meaning) (de
 
   module _ (old p : Parts D C F) (is : p ≡ old) (d : Numbers) (numbers : HasNumbers d (session_of state meaning device old).holding) (pair : D × C) (base : Counts) (gave : Gave p pair base)
       (session : IsSession p.plan (session_of state meaning device p)) where
-    numbers_are : numbers_of (state pair.0).shape (meaning pair.1) p.plan ≡ d
+    pub numbers_are : numbers_of (state pair.0).shape (meaning pair.1) p.plan ≡ d
     numbers_are = gave_numbers d p pair base gave session.held (numbers_of_fields old p is d numbers) p.mounted refl
 
     closed_so : IsClosed d (session_of state meaning device p) (state pair.0) (tallies base)

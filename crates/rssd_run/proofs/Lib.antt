@@ -13,6 +13,7 @@ pub mod PlayedSteps
 pub mod AnsweredKept
 pub mod Answered
 pub mod Fields
+pub mod Exchanges
 pub mod Runs
 pub mod Errors
 pub mod ReadScript

@@ -12,7 +12,8 @@ use Rattle.rssd_script.specs.declared.lines.Line.{Line}
 use Rattle.rssd_run.specs.ArrayWithCuts.{On}
 use Rattle.rssd_run.specs.View.{View}
 use Rattle.rssd_run.specs.Run.{RunOf, RunCutOff, CalmFor}
-use Rattle.rssd_run.specs.Shows.{SessionValue, Shows, HasNumbers, HasDie}
+use Rattle.rssd_run.specs.Shows.{SessionValue, Shows, HasNumbers, HasDie, Starts}
+use Rattle.rssd_run.specs.Exchanges.{AnswersOn, AnswersFrontOn}
 use Rattle.rssd_run.specs.Heads.{numbers_named}
 use Rattle.rssd_run.specs.Step.{KeepsDie}
 
@@ -36,6 +37,7 @@ pub record IsStart (head : ImageHead) (die : DieState) (view : View) : Type 0 wh
 pub record StartsOn (head : ImageHead) (die : DieState) (session : SessionValue) : Type 0 where
   pub view : View
   pub start : IsStart head die view
+  pub starts : Starts (numbers_named head) die session
   pub shows : Shows (numbers_named head) session view
   pub numbers : HasNumbers (numbers_named head) session.holding
   pub mounted : DieState
@@ -48,12 +50,14 @@ pub record RunsTo (d : Numbers) (before : View) (lines : List Line) (log log_aft
   pub die : after.device.die ≡ last
   pub run : RunOf d before lines after log log_after
 
--- The lines were run on a die that was mounted first, and this die was left. Whatever the cells, no charge fell between erases, and
--- no pad cell was charged; over sound cells, or where no line is `cut`, the lines are a run.
+-- The lines were run on a die that was mounted first, and this die was left. Whatever the cells, no charge fell between erases, no
+-- pad cell was charged, and each line had one reply, which is an answer of the device; over sound cells, or where no line is `cut`,
+-- the lines are a run.
 pub record RunsOn (head : ImageHead) (die : DieState) (lines : List Line) (log log_after : List Act) (last : DieState) : Type 0 where
   pub shape : last.shape ≡ shape_of head
   pub grew : Grows log log_after
   pub keeps : KeepsDie (numbers_named head) die last
+  pub answers : AnswersOn (numbers_named head) die lines log log_after last
   pub before : View
   pub start : IsStart head die before
   pub run : CalmFor (numbers_named head) die lines → RunsTo (numbers_named head) before lines log log_after last
@@ -65,6 +69,7 @@ pub record RunsInPart (d : Numbers) (before : View) (lines : List Line) (log log
 
 -- the same of the first lines, up to the one whose reply was not given whole
 pub record RunsFrontOn (head : ImageHead) (die : DieState) (lines : List Line) (log log_after : List Act) : Type 0 where
+  pub answers : AnswersFrontOn (numbers_named head) die lines log log_after
   pub before : View
   pub start : IsStart head die before
   pub run : CalmFor (numbers_named head) die lines → RunsInPart (numbers_named head) before lines log log_after

@@ -11,6 +11,7 @@ pub mod Held
 pub mod Steps
 pub mod Shows
 pub mod Played
+pub mod Exchanges
 pub mod ReadScript
 pub mod ReadImage
 pub mod GiveImage

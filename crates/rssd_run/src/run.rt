@@ -3,6 +3,7 @@ ghost use Rattle.std.specs.Prelude.{OnOk, OnErr};
 ghost use Rattle.std.specs.List.{All};
 ghost use Rattle.rssd_core.specs.DeviceValue.{Numbers};
 ghost use Rattle.rssd_io.specs.Event.{Grows, HasFailed};
+ghost use Rattle.rssd_run.specs.Exchanges.{AnswersSession, AnswersAll, AnswersFront};
 ghost use Rattle.rssd_run.specs.Run.{RunsSession, CutsOffSession};
 ghost use Rattle.rssd_run.specs.Shows.{SessionValue, CanStep, HasNumbers, KeepsSession, StepsSession};
 
@@ -33,7 +34,8 @@ pub trait Stepping {
     fn step(&mut self, alloc: Global, line: &Line) -> Reply
         requires { CanStep line.now }
         ensures numbers { (d : Numbers) → HasNumbers d (session self.old).holding → HasNumbers d (session self.new).holding }
-        ensures step { (d : Numbers) → HasNumbers d (session self.old).holding → StepsSession d line.now result (session self.old) (session self.new) };
+        ensures step { (d : Numbers) → HasNumbers d (session self.old).holding → StepsSession d line.now result (session self.old) (session self.new) }
+        ensures answers { (d : Numbers) → HasNumbers d (session self.old).holding → AnswersSession d line.now result (session self.old) (session self.new) };
 }
 
 /// Steps the lines in order, and gives each reply with its line feed to `out` in one piece.
@@ -49,6 +51,10 @@ pub fn run_lines<S: Stepping, O: Sink>(
         → RunsSession d lines.now (S.session session.old) (S.session session.new) (O.log out.old) (O.log out.new)) }
     ensures err { OnErr result ((d : Numbers) → HasNumbers d (S.session session.old).holding
         → CutsOffSession d lines.now (S.session session.old) (S.session session.new) (O.log out.old) (O.log out.new)) }
+    ensures answered { OnOk result ((d : Numbers) → HasNumbers d (S.session session.old).holding
+        → AnswersAll d (S.session session.old) lines.now (S.session session.new) (O.log out.old) (O.log out.new)) }
+    ensures answered_front { OnErr result ((d : Numbers) → HasNumbers d (S.session session.old).holding
+        → AnswersFront d (S.session session.old) lines.now (S.session session.new) (O.log out.old) (O.log out.new)) }
     ensures grew { Grows (O.log out.old) (O.log out.new) }
     ensures fault { OnErr result (HasFailed (O.log out.old) (O.log out.new)) }
     ensures keeps { (d : Numbers) → HasNumbers d (S.session session.old).holding → KeepsSession d (S.session session.old) (S.session session.new) }

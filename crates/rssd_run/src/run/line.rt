@@ -1,16 +1,19 @@
 //! Lines on a device that runs. Each is one call of it, and a step from every view that it stood for to one that it stands for.
 ghost use Rattle.std.specs.Prelude.{◌≡◌, ◌≤◌, ◌<◌, ◌^◌, ◌↔◌, false, length, None, IfSome, IfNone, IfOk, IfErr};
 ghost use Rattle.cell_die.specs.Calls.{Kept};
+ghost use Rattle.cell_die.specs.Power.{told, with_cut, with_power, with_read_failure};
 ghost use Rattle.cell_die.specs.DieState.{DieState};
 ghost use Rattle.page_codec.specs.Geometry.{shape_of};
+ghost use Rattle.rssd_core.specs.DeviceValue.{with_die};
 ghost use Rattle.rssd_core.specs.Failures.{Tells};
-ghost use Rattle.rssd_core.specs.Mount.{numbers_of, Fits};
+ghost use Rattle.rssd_core.specs.Mount.{numbers_of, Fits, Mounts, Refuses};
 ghost use Rattle.rssd_core.specs.SectorArray.{filled_up};
 ghost use Rattle.rssd_run.specs.Armed.{form_of_word};
+ghost use Rattle.rssd_run.specs.Exchanges.{AnsweredBy, AnsweredOn};
 ghost use Rattle.rssd_run.specs.Held.{reply_of};
 ghost use Rattle.rssd_run.specs.Step.{KeepsDie};
 ghost use Rattle.rssd_run.specs.Played.{IsPlayed, Answered, AnsweredWrite, AnsweredRead, AnsweredTrim, AnsweredIdle, Plays, PlaysQuiet};
-ghost use Rattle.rssd_run.specs.Shows.{CanStep, IsDeviceLine};
+ghost use Rattle.rssd_run.specs.Shows.{CanStep, IsDeviceLine, Mounted};
 ghost use Rattle.rssd_run.specs.Steps.{IsKept, Steps, MountDone, MountRefused, refusal_reply as replied};
 
 use crate::row::bytes_reply;
@@ -164,6 +167,7 @@ pub fn play<D: Die + Drop, C: Scheme + Drop, F: Device<D, C>>(
     ensures none { result ≡ None ↔ (¬ IsPlayed line.now) }
     ensures nothing { IfNone result (F.device ftl.new ≡ F.device ftl.old) }
     ensures plays { IfSome result (λ reply. Plays (F.device ftl.old).numbers line.now reply (F.device ftl.old) (F.device ftl.new)) }
+    ensures answers { IfSome result (λ reply. AnsweredBy (F.device ftl.old).numbers line.now reply (Mounted (F.device ftl.old)) (Mounted (F.device ftl.new))) }
     ensures quiet { IfSome result (λ reply. PlaysQuiet reply (F.device ftl.old) (F.device ftl.new)) }
     ensures keeps { IfSome result (λ reply. KeepsDie (F.device ftl.old).numbers (F.device ftl.old).view.die (F.device ftl.new).view.die) }
     ensures numbers { (F.device ftl.new).numbers ≡ (F.device ftl.old).numbers }
@@ -190,7 +194,8 @@ fn cut_line<D: PowerDie + Drop, C: Scheme + Drop, F: PowerDevice<D, C>>(
     requires some { 1 ≤ n }
     requires running { (F.device ftl.old).stopped ≡ false }
     requires kept { IsKept (F.device ftl.old).numbers (F.device ftl.old) }
-    ensures { Steps (F.device ftl.old).numbers (Line.Cut n torn) result (F.device ftl.old) (F.device ftl.new) }
+    ensures step { Steps (F.device ftl.old).numbers (Line.Cut n torn) result (F.device ftl.old) (F.device ftl.new) }
+    ensures armed { (result ≡ Reply.Done) × (F.device ftl.new ≡ with_die (told (with_cut n (form_of_word torn))) (F.device ftl.old)) }
 {
     ftl.arm_cut(n, torn_of(torn));
     Reply::Done
@@ -204,7 +209,8 @@ fn fail_read_line<D: PowerDie + Drop, C: Scheme + Drop, F: PowerDevice<D, C>>(
     requires some { 1 ≤ n }
     requires running { (F.device ftl.old).stopped ≡ false }
     requires kept { IsKept (F.device ftl.old).numbers (F.device ftl.old) }
-    ensures { Steps (F.device ftl.old).numbers (Line.FailRead n) result (F.device ftl.old) (F.device ftl.new) }
+    ensures step { Steps (F.device ftl.old).numbers (Line.FailRead n) result (F.device ftl.old) (F.device ftl.new) }
+    ensures armed { (result ≡ Reply.Done) × (F.device ftl.new ≡ with_die (told (with_read_failure n)) (F.device ftl.old)) }
 {
     ftl.fail_read(n);
     Reply::Done
@@ -220,7 +226,8 @@ pub fn answer_line<D: PowerDie + Drop, C: Scheme + Drop, F: PowerDevice<D, C>>(
     requires few_bytes { (F.device ftl.old).numbers.geometry.sector_bytes ≤ 512 }
     requires running { (F.device ftl.old).stopped ≡ false }
     requires kept { IsKept (F.device ftl.old).numbers (F.device ftl.old) }
-    ensures { Steps (F.device ftl.old).numbers line.now result (F.device ftl.old) (F.device ftl.new) }
+    ensures step { Steps (F.device ftl.old).numbers line.now result (F.device ftl.old) (F.device ftl.new) }
+    ensures answers { AnsweredOn (F.device ftl.old).numbers line.now result (F.device ftl.old) (F.device ftl.new) }
 {
     match line {
         Line::Cut { n, torn } => cut_line(ftl, *n, *torn),
@@ -252,6 +259,8 @@ pub fn mount_again<D: PowerDie + Drop, C: Scheme + Drop, F: PowerDevice<D, C>>(
     requires fits { Fits (D.state die).shape (C.meaning scheme) plan }
     ensures done { IfOk result (λ new. MountDone (numbers_of (D.state die).shape (C.meaning scheme) plan) (D.state die) (F.device new)) }
     ensures refused { IfErr result (λ refused. MountRefused (numbers_of (D.state die).shape (C.meaning scheme) plan) (D.state die) (D.state refused.die) refused.why) }
+    ensures mounts { IfOk result (λ new. Mounts (numbers_of (D.state die).shape (C.meaning scheme) plan) (told with_power (D.state die)) (F.device new)) }
+    ensures refuses { IfErr result (λ refused. Refuses (numbers_of (D.state die).shape (C.meaning scheme) plan) (told with_power (D.state die)) (D.state refused.die) refused.why) }
     ensures scheme { IfErr result (λ refused. C.meaning refused.scheme ≡ C.meaning scheme) }
 {
     die.power_on();

@@ -6,6 +6,7 @@ ghost use Rattle.page_codec.specs.Geometry.{shape_of};
 ghost use Rattle.rssd_core.specs.DeviceValue.{Numbers};
 ghost use Rattle.rssd_core.specs.Failures.{TellsPower};
 ghost use Rattle.rssd_core.specs.Mount.{numbers_of, Fits, Refuses};
+ghost use Rattle.rssd_run.specs.Exchanges.{AnswersSession};
 ghost use Rattle.rssd_run.specs.Held.{added_tallies, tallies_of};
 ghost use Rattle.rssd_run.specs.Shows.{CanStep, IsDeviceLine, HasNumbers, HasDie, StepsSession, Starts, session_of, tallies};
 
@@ -120,6 +121,7 @@ impl<D: PowerDie + Drop, C: Scheme + Drop, F: PowerDevice<D, C>> Session<D, C, F
         ensures numbers { (d : Numbers) → HasNumbers d (session_of D.state C.meaning F.device self.old).holding → HasNumbers d (session_of D.state C.meaning F.device self.new).holding }
         ensures step { (d : Numbers) → HasNumbers d (session_of D.state C.meaning F.device self.old).holding
             → StepsSession d line.now result (session_of D.state C.meaning F.device self.old) (session_of D.state C.meaning F.device self.new) }
+        ensures answers { (d : Numbers) → HasNumbers d (session_of D.state C.meaning F.device self.old).holding → AnswersSession d line.now result (session_of D.state C.meaning F.device self.old) (session_of D.state C.meaning F.device self.new) }
     {
         let Some(ftl) = &mut self.mounted else {
             return Reply::Off;
@@ -132,8 +134,9 @@ impl<D: PowerDie + Drop, C: Scheme + Drop, F: PowerDevice<D, C>> Session<D, C, F
 
     /// Answers `stat`: the session's tallies, and the sum of the die's erase counts.
     fn stat(&self) -> Reply
-        ensures { (d : Numbers) → HasNumbers d (session_of D.state C.meaning F.device self.now).holding
+        ensures step { (d : Numbers) → HasNumbers d (session_of D.state C.meaning F.device self.now).holding
             → StepsSession d Line.Stat result (session_of D.state C.meaning F.device self.now) (session_of D.state C.meaning F.device self.now) }
+        ensures answers { (d : Numbers) → HasNumbers d (session_of D.state C.meaning F.device self.now).holding → AnswersSession d Line.Stat result (session_of D.state C.meaning F.device self.now) (session_of D.state C.meaning F.device self.now) }
     {
         match &self.mounted {
             Some(ftl) => stat_reply(added(self.base, ftl.counts()), ftl.erased()),
@@ -149,6 +152,7 @@ impl<D: PowerDie + Drop, C: Scheme + Drop, F: PowerDevice<D, C>> Session<D, C, F
         ensures numbers { (d : Numbers) → HasNumbers d (session_of D.state C.meaning F.device self.old).holding → HasNumbers d (session_of D.state C.meaning F.device self.new).holding }
         ensures step { (d : Numbers) → HasNumbers d (session_of D.state C.meaning F.device self.old).holding
             → StepsSession d Line.Mount result (session_of D.state C.meaning F.device self.old) (session_of D.state C.meaning F.device self.new) }
+        ensures answers { (d : Numbers) → HasNumbers d (session_of D.state C.meaning F.device self.old).holding → AnswersSession d Line.Mount result (session_of D.state C.meaning F.device self.old) (session_of D.state C.meaning F.device self.new) }
     {
         let (die, scheme) = close_held(&mut self.mounted, &mut self.closed, &mut self.base);
         match mount_again(alloc, die, scheme, self.plan) {

@@ -1,11 +1,14 @@
 -- A line more is a step more, and its text is given after the others.
 use Rattle.std.proofs.Common.{◌≡◌, ℕ, ◌+◌, ◌++◌, ◌∷◌, [], All, length, take, ◌∙◌, sym, ap, subst, arith, false, Result, Ok, Err, OnErr, length-take, append-nil, List}
-use Rattle.std.proofs.lemmas.List.{take_more}
+use Rattle.std.proofs.lemmas.List.{take_all, take_more}
 use Rattle.std.proofs.lemmas.List.Elements.{All-get_or}
 use Rattle.rssd_io.specs.Event.{moved, failed}
 use Rattle.rssd_io.proofs.Logs.{more_came, came_behind, gave_failed}
+use Rattle.rssd_script.specs.declared.lines.Line.{Line}
 use Rattle.rssd_script.specs.Replies.{reply_line}
+use Rattle.rssd_run.specs.Exchanges.{AnswersAll}
 use Rattle.rssd_run.specs.Run.{is_cut}
+use Rattle.rssd_run.proofs.Exchanges.{answers_none, answers_more, answers_cut_off}
 use Rattle.rssd_run.proofs.Parts.{keeps_none, keeps_more}
 use Rattle.rssd_run.proofs.Runs.{run_of_none, run_of_more, run_cut_off, calm_now, calm_on}
 use Rattle.rssd_run.proofs.run.run_lines.Goals as goal
@@ -14,6 +17,7 @@ pub loop-line-init : goal.loop-line-init
 loop-line-init g c = record {
   numbers = λ d numbers. numbers;
   runs = λ d numbers before shows calm. (before, shows, calm, run_of_none d before (g.O.Sink.log c.args.out.now));
+  answered = λ d numbers. answers_none d _ (g.O.Sink.log c.args.out.now);
   grew = ([], sym (append-nil (g.O.Sink.log c.args.out.now)));
   keeps = λ d numbers die has. (die, has, keeps_none d die);
 }
@@ -39,6 +43,9 @@ loop-line-preserved g c =
             calm_on d so.0 s.0 line reply lines s.2 among so.2,
             rw more (run_of_more d before so.0 s.0 (take i lines) line reply (log c.args.out.now) (log c.loop-line.out) (log c.give.new.self) so.3 s.2 given),
           );
+      answered = λ d numbers.
+          rw more (answers_more d _ _ _ (take i lines) line reply (log c.args.out.now) (log c.loop-line.out) (log c.give.new.self) (c.loop-line.invariant.answered d numbers)
+          (c.step-reply.ensures.answers d (c.loop-line.invariant.numbers d numbers)) given);
       grew = (c.loop-line.invariant.grew.0 ++ moved c.as_slice.result.now ∷ [], more_came _ _ _ c.loop-line.invariant.grew.0 _ c.loop-line.invariant.grew.1 c.in_ok-give.ensures.log);
       keeps = λ d numbers die has.
           let one = c.loop-line.invariant.keeps d numbers die has in
@@ -90,3 +97,25 @@ returns-in_err-give-clause-keeps g c = λ d numbers die has.
     let one = c.loop-line.invariant.keeps d numbers die has in
     let two = (c.step-reply.ensures.step d (c.loop-line.invariant.numbers d numbers)).keeps one.0 one.1 in
     (two.0, two.1, keeps_more d die one.0 two.0 one.2 two.2)
+
+pub returns-in_err-give-clause-answered_front : goal.returns-in_err-give-clause-answered_front
+returns-in_err-give-clause-answered_front g c =
+    let log = g.O.Sink.log in
+    let lines = c.args.lines.now in
+    let i = c.loop-line.line-index in
+    let line = c.line-item.result in
+    let reply = c.step-reply.result in
+    let more : take (i + 1) lines ≡ take i lines ++ line ∷ [] = take_more lines i line (omega arith) ∙ ap (λ item. take i lines ++ item ∷ []) (sym c.line-item.is) in
+    let count : i ≡ length (take i lines) = omega (arith, length-take i lines) in
+    let front : take i lines ++ line ∷ [] ≡ take (length (take i lines) + 1) lines = sym more ∙ ap (λ (n : ℕ). take (n + 1) lines) count in
+    let text : c.as_slice.result.now ≡ reply_line reply = c.as_slice.ensures ∙ c.set.ensures in
+    let given = subst (λ (xs : List ℕ). log c.give.new.self ≡ log c.loop-line.out ++ moved (take c.in_err-give.ensures.log.0 xs) ∷ failed ∷ []) text c.in_err-give.ensures.log.1 in
+    on_err c.from_residual.result _ (λ d numbers.
+    answers_cut_off d _ _ _ (take i lines) line reply (log c.args.out.now) (log c.loop-line.out) (log c.give.new.self) (c.loop-line.invariant.answered d numbers)
+    (c.step-reply.ensures.answers d (c.loop-line.invariant.numbers d numbers)) lines front c.in_err-give.ensures.log.0 given)
+
+pub returns-clause-answered : goal.returns-clause-answered
+returns-clause-answered g c = λ d numbers.
+    let whole : take c.loop-line.line-index c.args.lines.now ≡ c.args.lines.now = take_all c.loop-line.line-index c.args.lines.now (omega arith) in
+    subst (λ (ls : List Line). AnswersAll d (g.S.Stepping.session c.args.session.now) ls (g.S.Stepping.session c.loop-line.session) (g.O.Sink.log c.args.out.now) (g.O.Sink.log c.loop-line.out)) whole
+    (c.loop-line.invariant.answered d numbers)

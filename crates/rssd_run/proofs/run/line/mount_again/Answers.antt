@@ -15,3 +15,9 @@ returns-in-Err-clause-refused g c =
     let r = rw c.power_on.ensures at c.in-Err.ensures.refused in
     let shape = rw c.power_on.ensures at c.in-Err.ensures.shape in
     mount_refused (numbers_of die.shape (g.C.Scheme.meaning c.args.scheme) c.args.plan) die (g.D.Die.state c.in-Err.refused.die) c.in-Err.refused.why (λ why. shape.0 why c.requires.fits) r c.requires.tells
+
+pub returns-in-Ok-clause-mounts : goal.returns-in-Ok-clause-mounts
+returns-in-Ok-clause-mounts g c = rw c.power_on.ensures at c.in-Ok.ensures.mounted
+
+pub returns-in-Err-clause-refuses : goal.returns-in-Err-clause-refuses
+returns-in-Err-clause-refuses g c = rw c.power_on.ensures at c.in-Err.ensures.refused

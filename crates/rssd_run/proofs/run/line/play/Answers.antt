@@ -1,11 +1,12 @@
 -- What the line left is a played step; a line that no device plays is none of these.
-use Rattle.std.proofs.Common.{◌≡◌, ℕ, sym, ◌∙◌, refl}
+use Rattle.std.proofs.Common.{◌≡◌, ℕ, inl, inr, sym, ◌∙◌, refl}
 use Rattle.rssd_script.specs.declared.lines.Line.{Line}
 use Rattle.rssd_script.specs.declared.lines.Line.TheVariants.{Write, Read, Trim, Idle, Cut, FailRead, Mount, Stat}
 use Rattle.rssd_script.specs.declared.lines.TornWord.{TornWord}
 use Rattle.rssd_core.specs.DeviceValue.{DeviceValue}
 use Rattle.rssd_run.specs.Played.{IsPlayed}
 use Rattle.rssd_run.proofs.Answered.{answered_plays, answered_quiet, answered_keeps, stopped_plays}
+use Rattle.rssd_run.proofs.Exchanges.{played_on}
 use Rattle.rssd_run.proofs.Parts.{keeps_none}
 use Rattle.rssd_run.proofs.AnsweredKept.{answered_built}
 use Rattle.rssd_run.proofs.run.line.play.Goals as goal
@@ -61,3 +62,13 @@ returns-else-stopped-clause-kept g c =
     let old : DeviceValue = g.F.Device.device c.args.ftl.now in
     let new : DeviceValue = g.F.Device.device c.play_line.new.ftl in
     (answered_built old.numbers old new c.args.line.now c.play_line.result c.play_line.ensures).kept
+
+pub returns-then-stopped-clause-answers : goal.returns-then-stopped-clause-answers
+returns-then-stopped-clause-answers g c = inl (sym c.stopped.ensures ∙ c.if-stopped.true, refl, refl)
+
+pub returns-else-stopped-clause-answers : goal.returns-else-stopped-clause-answers
+returns-else-stopped-clause-answers g c =
+    let old : DeviceValue = g.F.Device.device c.args.ftl.now in
+    let new : DeviceValue = g.F.Device.device c.play_line.new.ftl in
+    inr (sym c.stopped.ensures ∙ c.if-stopped.false, (new, refl, played_on old.numbers c.args.line.now c.play_line.result old new
+    (is_played c.args.line.now (λ n torn. c.in_default.not-Cut n torn) (λ n. c.in_default.not-FailRead n) c.in_default.not-Mount c.in_default.not-Stat) c.play_line.ensures))

@@ -1,5 +1,5 @@
 -- The workload is a run on a blank die, `stat` tells its last view, and each sector is then read.
-use Rattle.std.proofs.Common.{◌≡◌, ◌⊎◌, inl, inr, ℕ, List, [], ◌∷◌, length, refl, sym, ap, ◌∙◌, arith, subst, rules}
+use Rattle.std.proofs.Common.{◌≡◌, ◌⊎◌, ℕ, List, sym, ◌∙◌, subst, rules}
 use Rattle.mem_die.specs.MemState.{mem_state, mem_shaped}
 use Rattle.rssd_io.specs.Pieces.{Gives, StopsAt}
 use Rattle.rssd_run.specs.Heads.{numbers_named}

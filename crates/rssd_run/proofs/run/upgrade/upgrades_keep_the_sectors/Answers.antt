@@ -1,5 +1,5 @@
 -- What is read of an image are the cells of its head, and their image is read as these again.
-use Rattle.std.proofs.Common.{◌≡◌, ℕ, List, Ok, true, false, Result, refl, sym, ap, ◌∙◌}
+use Rattle.std.proofs.Common.{◌≡◌, ℕ, List, Ok, true, false, Result, ap}
 use Rattle.die_image.specs.declared.error.ImageError.{ImageError}
 use Rattle.die_image.specs.declared.head.ImageHead.{ImageHead}
 use Rattle.die_image.specs.Image.{image as image_of, image_read}

@@ -1,7 +1,7 @@
 -- A workload of one line is the next line, and the state behind it is as many words on as it draws.
-use Rattle.std.proofs.Common.{◌≡◌, ℕ, ◌<◌, List, [], ◌∷◌, ◌++◌, length, refl, sym, ap, ◌∙◌, arith, subst, vec_len}
+use Rattle.std.proofs.Common.{◌≡◌, ℕ, length, sym, ap, ◌∙◌, arith}
 use Rattle.rssd_script.specs.declared.lines.Line.{Line}
-use Rattle.rssd_work.specs.Workload.{after_words, next_line, words_drawn}
+use Rattle.rssd_work.specs.Workload.{after_words, next_line}
 use Rattle.rssd_run.specs.Workloads.{words_of}
 use Rattle.rssd_run.proofs.WorkloadLines.{workload-one, words_of-next_line, last_of_one}
 use Rattle.rssd_run.proofs.run.workload.draw.Goals as goal

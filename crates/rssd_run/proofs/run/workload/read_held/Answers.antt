@@ -1,5 +1,5 @@
 -- Each read tells its row without the zeros at the end.
-use Rattle.std.proofs.Common.{◌≡◌, ℕ, ◌+◌, ◌<◌, ◌≤◌, Bool, true, false, List, [], length, take, get_or, refl, sym, ap, ◌∙◌, arith, subst}
+use Rattle.std.proofs.Common.{◌≡◌, ℕ, ◌<◌, ◌≤◌, Bool, true, false, List, [], length, get_or, refl, ap, ◌∙◌, arith}
 use Rattle.std.specs.Prelude.{sum, not, cond, ◌==◌}
 use Rattle.std.proofs.lemmas.List.{take_all}
 use mir.Val.{bool_byte}

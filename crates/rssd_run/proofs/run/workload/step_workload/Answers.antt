@@ -1,7 +1,7 @@
 -- Each line that is drawn is the next one, and a step more.
-use Rattle.std.proofs.Common.{◌≡◌, ℕ, ◌+◌, ◌-◌, [], ◌∷◌, ◌++◌, List, refl, ap, sym, ◌∙◌, arith, subst}
+use Rattle.std.proofs.Common.{◌≡◌, ℕ, ◌+◌, ◌-◌, [], ◌∷◌, ◌++◌, List, ap, sym, ◌∙◌, arith, subst}
 use Rattle.rssd_script.specs.declared.lines.Line.{Line}
-use Rattle.rssd_work.specs.Workload.{after_words, next_line, words_drawn, workload_from}
+use Rattle.rssd_work.specs.Workload.{workload_from}
 use Rattle.rssd_run.specs.Shows.{CanStep}
 use Rattle.rssd_run.specs.Workloads.{RunsLines}
 use Rattle.rssd_run.proofs.CalmLines.{IsPlain, calm_step, runs_none, runs_more}
