@@ -1,20 +1,28 @@
 -- Where all that a command took is in its grammar and no call of a source or sink failed, only two statuses are left.
-use Rattle.std.proofs.Common.{◌≡◌, ◌⊎◌, inl, inr, ℕ, List, [], ◌∷◌, ◌++◌, take, true, refl, sym, ap, arith, subst, ◌∙◌, append_assoc}
-use Rattle.rssd_io.specs.Event.{Event, moved, failed}
-use Rattle.rssd_io.specs.Pieces.{all_given}
+use Rattle.std.proofs.Common.{◌≡◌, ◌⊎◌, inl, inr, ℕ, List, [], ◌∷◌, ◌++◌, take, true, refl, sym, ap, arith, subst, ◌∙◌, append_assoc, ◌-◌, All, get_or}
+use Rattle.rssd_io.specs.Event.{Event, moved, failed, HasFailed}
+use Rattle.rssd_io.specs.Pieces.{all_given, StopsIn}
 use Rattle.rssd_io.proofs.Logs.{failed_since}
+use Rattle.rssd_script.proofs.Unique.{no_bad, one_script}
 use Rattle.rssd_script.specs.Replies.{reply_line}
 use Rattle.die_image.specs.declared.head.ImageHead.{ImageHead}
 use Rattle.rssd_words.specs.declared.command.Command.{Command}
 use Rattle.rssd_words.specs.declared.command.Command.TheVariants.{Replay, Run, Format, Make, Upgrade, Queue, Worn, Pair, Audit}
 use Rattle.rssd_run.specs.declared.status.Status.{Status}
-use Rattle.rssd_run.specs.declared.status.Status.TheVariants.{Done, BadWords, BadScript, BadImage, ReadFault, WriteFault, OutOfMemory}
+use Rattle.rssd_run.specs.declared.status.Status.TheVariants.{Done, BadWords, BadScript, BadImage, ReadFault, WriteFault, OutOfMemory, Unsound}
 use Rattle.rssd_run.specs.Statuses.{Call, WriteFailed}
 use Rattle.rssd_run.specs.ImageRuns.{IsFull}
 use Rattle.rssd_run.specs.Run.{pieces_of}
 use Rattle.rssd_run.specs.MakeRuns.{SaysMake}
+use Rattle.rssd_run.proofs.AuditLaws.{found_again}
 use Rattle.rssd_run.proofs.CallStops.{stopped, unflushed, never_refused}
-use Rattle.rssd_run.specs.Top.{SaysOf, SaysReplay, SaysRun, SaysFormat, SaysUpgrade, IsRunCutOff, IsBadImage, IsNoImage, HasScript, HasImage, HasOldImage, NoneFailed, IsComplete}
+use Rattle.rssd_run.specs.Top.{SaysOf, SaysReplay, SaysRun, SaysFormat, SaysUpgrade, IsRunCutOff, IsBadImage, IsNoImage, HasScript, HasImage, HasOldImage, NoneFailed, IsComplete, SaysAudit, HasSoundImage, IsRefused, HasPlayed, PlaysScript, HasUnplayed, SaysPlay}
+use Rattle.rssd_core.specs.DeviceValue.{Numbers}
+use Rattle.rssd_script.specs.declared.lines.Line.{Line}
+use Rattle.rssd_script.specs.declared.lines.Line.TheVariants.{Mount}
+use Rattle.rssd_run.specs.View.{View, Event as Step}
+use Rattle.rssd_run.specs.Heads.{numbers_named}
+use Rattle.rssd_run.specs.Played.{IsPlayed}
 
 replay_stopped : (head : ImageHead) (call : Call) → SaysReplay head call.script call.out WriteFault → WriteFailed call.out
 replay_stopped head call says = elim says.stops [
@@ -67,6 +75,7 @@ replay_completes head call ReadFault says script none = absurd (none.no_script_f
 replay_completes head call WriteFault says script none = absurd (none.no_out_fault (replay_stopped head call says))
 replay_completes head call BadWords says script none = absurd says
 replay_completes head call BadImage says script none = absurd says
+replay_completes head call Unsound says script none = absurd says
 
 run_completes : (call : Call) (status : Status) → SaysRun call.image call.script call.out call.image_out status → HasScript call → HasImage call → NoneFailed call → (status ≡ Done) ⊎ (status ≡ OutOfMemory)
 run_completes call Done says script image none = inl refl
@@ -77,6 +86,7 @@ run_completes call ReadFault says script image none = absurd (elim says.0 [ inl 
 run_completes call WriteFault says script image none =
     absurd (elim says [ inl cut_off ↦ none.no_out_fault (run_stopped call cut_off.0) | inr cut_off ↦ none.no_image_out_fault (stopped _ call.image_out.before call.image_out.after cut_off.written) ])
 run_completes call BadWords says script image none = absurd says
+run_completes call Unsound says script image none = absurd says
 
 format_completes : (head : ImageHead) (call : Call) (status : Status) → SaysFormat head call.image_out status → NoneFailed call → (status ≡ Done) ⊎ (status ≡ OutOfMemory)
 format_completes head call Done says none = inl refl
@@ -86,6 +96,7 @@ format_completes head call BadWords says none = absurd says
 format_completes head call BadScript says none = absurd says
 format_completes head call BadImage says none = absurd says
 format_completes head call ReadFault says none = absurd says
+format_completes head call Unsound says none = absurd says
 
 upgrade_completes : (call : Call) (status : Status) → SaysUpgrade call.image call.out call.image_out status → HasOldImage call → NoneFailed call → (status ≡ Done) ⊎ (status ≡ OutOfMemory)
 upgrade_completes call Done says image none = inl refl
@@ -95,6 +106,7 @@ upgrade_completes call ReadFault says image none = absurd (none.no_image_fault s
 upgrade_completes call WriteFault says image none = absurd (none.no_image_out_fault (stopped _ call.image_out.before call.image_out.after says.0.written))
 upgrade_completes call BadWords says image none = absurd says
 upgrade_completes call BadScript says image none = absurd says
+upgrade_completes call Unsound says image none = absurd says
 
 make_completes : (head : ImageHead) (seed count : ℕ) (call : Call) (status : Status) → SaysMake head seed count call.out status → NoneFailed call → (status ≡ Done) ⊎ (status ≡ OutOfMemory)
 make_completes head seed count call Done says none = inl refl
@@ -104,6 +116,53 @@ make_completes head seed count call BadWords says none = absurd says
 make_completes head seed count call BadScript says none = absurd says
 make_completes head seed count call BadImage says none = absurd says
 make_completes head seed count call ReadFault says none = absurd says
+make_completes head seed count call Unsound says none = absurd says
+
+audit_completes : (call : Call) (status : Status) → SaysAudit call.image call.out status → HasSoundImage call → NoneFailed call → (status ≡ Done) ⊎ (status ≡ OutOfMemory)
+audit_completes call Done says image none = inl refl
+audit_completes call OutOfMemory says image none = inr refl
+audit_completes call BadImage says image none = absurd (let is = image.is_image in let not = says.refused.refused in cc)
+audit_completes call ReadFault says image none = absurd (none.no_image_fault says.0)
+audit_completes call WriteFault says image none = absurd (none.no_out_fault (stopped _ call.out.before call.out.after says.lines))
+audit_completes call Unsound says image none =
+    absurd (says.not_sound (found_again call.image says.read image.head image.cells image.is_image image.audit))
+audit_completes call BadWords says image none = absurd says
+audit_completes call BadScript says image none = absurd says
+
+-- a play of a script each line of which is played
+play_stopped : (S : View → Type 0) (P : Step → Type 0) (d : Numbers) (call : Call) → PlaysScript S P d call.script call.out WriteFault → WriteFailed call.out
+play_stopped S P d call plays = elim plays.ends [
+  | inl front ↦ (
+      let e = front.play in
+      let part : List ℕ = take e.front (reply_line e.last.reply) in
+      let given : List Event = all_given (pieces_of e.events) in
+      failed_since call.out.before call.out.after (given ++ moved part ∷ []) (e.given ∙ ap (λ (xs : List Event). call.out.before ++ xs) (sym (append_assoc given (moved part ∷ []) (failed ∷ []))))
+      )
+  | inr all ↦ unflushed call.out.before all.0 call.out.after (all_given (pieces_of all.1.play.events)) all.1.play.given all.2
+]
+
+same_lines : (call : Call) (asked : HasPlayed call) (found : HasUnplayed call.script call.out) → asked.lines ≡ found.lines
+same_lines call asked found = one_script (taken call.script) asked.lines found.lines asked.is_script.1 found.is_script.reads.1
+
+all_played : (call : Call) → HasPlayed call → HasUnplayed call.script call.out → ⊥
+all_played call asked found =
+    let same : asked.lines ≡ found.lines = same_lines call asked found in
+    let within = found.first.within in
+    found.first.unplayed (subst (λ (lines : List Line). All IsPlayed lines) same asked.played (found.k - 1) Mount (omega (arith, within.0, within.1)))
+
+play_completes : (S : View → Type 0) (P : Step → Type 0) (d : Numbers) (call : Call) (status : Status) → SaysPlay S P d call.script call.out status → HasPlayed call → NoneFailed call
+    → (status ≡ Done) ⊎ (status ≡ OutOfMemory)
+play_completes S P d call Done says asked none = inl refl
+play_completes S P d call OutOfMemory says asked none = inr refl
+play_completes S P d call BadScript says asked none = elim says [
+  | inl refused ↦ absurd (never_refused call (record { lines = asked.lines; is_script = asked.is_script }) refused)
+  | inr unplayed ↦ absurd (all_played call asked unplayed)
+]
+play_completes S P d call ReadFault says asked none = absurd (none.no_script_fault says.0)
+play_completes S P d call WriteFault says asked none = absurd (none.no_out_fault (play_stopped S P d call says))
+play_completes S P d call BadWords says asked none = absurd says
+play_completes S P d call BadImage says asked none = absurd says
+play_completes S P d call Unsound says asked none = absurd says
 
 pub completes : (command : Command) (call : Call) (status : Status) → SaysOf command call status → IsComplete command call status
 completes (Replay head) call status says asked none = replay_completes head call status says.0 asked none
@@ -112,6 +171,6 @@ completes (Format head) call status says asked none = format_completes head call
 completes Upgrade call status says asked none = upgrade_completes call status says.0 asked none
 completes (Make seed count head) call status says asked none = make_completes head seed count call status says none
 completes (Queue head) call status says asked none = absurd asked
-completes (Worn head reserve bad) call status says asked none = absurd asked
-completes (Pair head) call status says asked none = absurd asked
-completes Audit call status says asked none = absurd asked
+completes Audit call status says asked none = audit_completes call status says.0 asked none
+completes (Worn head reserve bad) call status says asked none = play_completes _ _ (numbers_named head) call status says.0 asked none
+completes (Pair head) call status says asked none = play_completes _ _ (numbers_named head) call status says.0 asked none

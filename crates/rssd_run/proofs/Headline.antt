@@ -18,11 +18,11 @@ use Rattle.rssd_run.specs.Run.{IsRun}
 use Rattle.rssd_run.specs.Headline.{IsWritten, FaultsRose, KeepsHeadline, AllKeepHeadline, view_at, ChargeNeverFalls}
 
 -- the replies to a write while the array is on
-record RepliesWrite (reply : Reply) (P : Type 0) : Type 0 where
-  fault : reply ≡ Fault → P
-  range : reply ≡ Range → P
-  long : reply ≡ Long → P
-  spent : reply ≡ Spent → P
+pub record RepliesWrite (reply : Reply) (P : Type 0) : Type 0 where
+  pub fault : reply ≡ Fault → P
+  pub range : reply ≡ Range → P
+  pub long : reply ≡ Long → P
+  pub spent : reply ≡ Spent → P
 
 written_or : (rows new : List (List ℕ)) (reply : Reply) (next : ArrayState) (P : Type 0) → WriteRow rows new reply next → RepliesWrite reply P → IsWritten reply ⊎ P
 written_or rows new First next P row others = inl tt
@@ -34,7 +34,7 @@ written_or rows new Long next P row others = inr (others.long refl)
 written_or rows new Spent next P row others = inr (others.spent refl)
 written_or rows new reply next P row others = absurd row
 
-write_or : (size : ℕ) (array : ArrayState) (sector : ℕ) (bytes : List ℕ) (reply : Reply) (next : ArrayState) (P : Type 0) → IsOn array → Row size array (Write sector bytes) reply next → RepliesWrite reply P → IsWritten reply ⊎ P
+pub write_or : (size : ℕ) (array : ArrayState) (sector : ℕ) (bytes : List ℕ) (reply : Reply) (next : ArrayState) (P : Type 0) → IsOn array → Row size array (Write sector bytes) reply next → RepliesWrite reply P → IsWritten reply ⊎ P
 write_or size (On rows) sector bytes reply next P on row others = written_or rows _ reply next P row others
 write_or size (Off old new) sector bytes reply next P on row others = absurd on
 
@@ -71,14 +71,14 @@ runs_keep_headline d before events after run = All-from_recursion (KeepsHeadline
 
 -- ---- charge, from any view to any later one
 
-record Charged (old new : DieState) : Type 0 where
-  shape : new.shape ≡ old.shape
-  never_falls : NeverFalls old new
+pub record Charged (old new : DieState) : Type 0 where
+  pub shape : new.shape ≡ old.shape
+  pub never_falls : NeverFalls old new
 
-uncharged : (die : DieState) → Charged die die
+pub uncharged : (die : DieState) → Charged die die
 uncharged die = record { shape = refl; never_falls = never_falls_refl die }
 
-charged_more : (old mid new : DieState) → Charged old mid → Charged mid new → Charged old new
+pub charged_more : (old mid new : DieState) → Charged old mid → Charged mid new → Charged old new
 charged_more old mid new first second = record { shape = second.shape ∙ first.shape; never_falls = never_falls_trans old mid new first.shape first.never_falls second.never_falls }
 
 step_charged : (d : Numbers) (e : Event) → IsStep d e → Charged e.before.device.die e.after.device.die

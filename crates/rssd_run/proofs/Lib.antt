@@ -29,10 +29,16 @@ pub mod SavedErases
 pub mod Spending
 pub mod ImageRuns
 pub mod LeftCells
+pub mod AuditLaws
 pub mod Completeness
 pub mod Rows
 pub mod CalmLines
 pub mod WorkloadLines
 pub mod HeldRows
 pub mod MadeRuns
+pub mod Plays
+pub mod PlayStart
+pub mod PairPlays
+pub mod WornPlays
+pub mod PlayLaws
 pub mod CallStops

@@ -125,6 +125,13 @@ as_many [] (line ∷ lines) spelled = absurd spelled
 as_many (text ∷ texts) [] spelled = absurd spelled
 as_many (text ∷ texts) (line ∷ lines) spelled = let rest = as_many texts lines spelled.1 in omega (arith, rest)
 
+pub lines_few : (text : List ℕ) (lines : List Line) → Reads text lines → length lines ≤ 1_048_576
+lines_few text lines reads =
+    let short = reads.0 in
+    let few = few_lines text in
+    let many = as_many (text_lines text) lines reads.1 in
+    omega (arith, short, few, many)
+
 lines_length : (events : List Event) → length (lines_of events) ≡ length events
 lines_length [] = refl
 lines_length (e ∷ events) = let rest = lines_length events in omega (arith, rest)

@@ -26,4 +26,6 @@ pub mod Headline
 pub mod Reuse
 pub mod Workloads
 pub mod MakeRuns
+pub mod AuditRuns
+pub mod PlayRuns
 pub mod Upgrades

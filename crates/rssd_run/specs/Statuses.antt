@@ -5,7 +5,7 @@ use Rattle.rssd_io.specs.Pieces.{HandsOn, StopsIn}
 use Rattle.die_image.specs.declared.error.ImageError.{ImageError}
 use Rattle.die_image.specs.declared.error.ImageError.TheVariants as images
 use Rattle.rssd_run.specs.declared.status.Status.{Status}
-use Rattle.rssd_run.specs.declared.status.Status.TheVariants.{Done, BadWords, BadScript, BadImage, ReadFault, WriteFault, OutOfMemory}
+use Rattle.rssd_run.specs.declared.status.Status.TheVariants.{Done, BadWords, BadScript, BadImage, ReadFault, WriteFault, OutOfMemory, Unsound}
 use Rattle.rssd_script.specs.declared.error.ScriptError.{ScriptError}
 use Rattle.rssd_script.specs.declared.error.ScriptError.TheVariants as errors
 
@@ -113,6 +113,7 @@ number_of BadImage = 4
 number_of ReadFault = 5
 number_of WriteFault = 6
 number_of OutOfMemory = 7
+number_of Unsound = 8
 
 -- what a refused script is answered, and what it leaves of `out`
 abbrev pub RefusesSo : ScriptError → Status → Output → Type 0

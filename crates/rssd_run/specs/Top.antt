@@ -1,5 +1,5 @@
 -- What the top call does for each command, by the status that it answers, over the logs of its sources and sinks.
-use Rattle.std.specs.Prelude.{◌≡◌, ◌≢◌, ◌⊎◌, ◌<◌, ◌≤◌, ◌++◌, ◌∷◌, ℕ, Bool, true, false, List, [], replicate, length, Ok}
+use Rattle.std.specs.Prelude.{◌≡◌, ◌≢◌, ◌⊎◌, ◌<◌, ◌≤◌, ◌++◌, ◌∷◌, ℕ, Bool, true, false, List, [], All, replicate, length, Ok}
 use Rattle.cell_die.specs.DieState.{DieState}
 use Rattle.page_codec.specs.Sound.{live_count}
 use Rattle.mem_die.specs.MemState.{IsMade}
@@ -7,15 +7,16 @@ use Rattle.die_image.specs.declared.error.ImageError.{ImageError}
 use Rattle.die_image.specs.declared.error.ImageError.TheVariants as images
 use Rattle.die_image.specs.declared.head.ImageHead.{ImageHead}
 use Rattle.die_image.specs.Image.{shape_of, die_bytes, image_read}
+use Rattle.image_audit.specs.declared.verdict.Verdict.TheVariants.{Sound}
 use Rattle.rssd_words.specs.declared.command.Command.{Command}
-use Rattle.rssd_words.specs.declared.command.Command.TheVariants.{Replay, Run, Format, Upgrade, Make}
+use Rattle.rssd_words.specs.declared.command.Command.TheVariants.{Replay, Run, Format, Upgrade, Make, Audit, Worn, Pair}
 use Rattle.rssd_words.specs.Commands.{words_of, IsWithin}
 use Rattle.rssd_io.specs.Event.{Event, flushed, failed}
 use Rattle.rssd_script.specs.declared.lines.Line.{Line}
 use Rattle.rssd_script.specs.Script.{FirstBadLine}
 use Rattle.rssd_script.specs.Scripts.{Reads, most_bytes}
 use Rattle.rssd_run.specs.declared.status.Status.{Status}
-use Rattle.rssd_run.specs.declared.status.Status.TheVariants.{Done, BadWords, BadScript, BadImage, ReadFault, WriteFault, OutOfMemory}
+use Rattle.rssd_run.specs.declared.status.Status.TheVariants.{Done, BadWords, BadScript, BadImage, ReadFault, WriteFault, OutOfMemory, Unsound}
 use Rattle.rssd_run.specs.Statuses.{Call, Input, Output, takes, taken, IsTakenWhole, ReadFailed, IsUntouched, Took, TookPart, TookNothing, GaveLine, WriteFailed, bad_words, too_long, bad_line, bad_image, no_spare}
 use Rattle.rssd_run.specs.ReadScript.{ReadsAll, TakesScript}
 use Rattle.rssd_run.specs.ReadImage.{ReadsImage, TakesImage, IsNoImageFor}
@@ -23,6 +24,11 @@ use Rattle.rssd_run.specs.GiveImage.{image_pieces}
 use Rattle.rssd_run.specs.Heads.{numbers_named}
 use Rattle.rssd_run.specs.Replays.{Replays, ReplaysFront}
 use Rattle.rssd_run.specs.MakeRuns.{SaysMake}
+use Rattle.rssd_run.specs.AuditRuns.{IsAuditOf, IsAudited, IsAuditCutOff, IsUnsound}
+use Rattle.rssd_core.specs.DeviceValue.{Numbers}
+use Rattle.rssd_run.specs.View.{View, Event as Step}
+use Rattle.rssd_run.specs.Played.{IsPlayed}
+use Rattle.rssd_run.specs.PlayRuns.{FirstUnplayed, EndsPlay, IsWornStart, IsWornStep, IsPairStart, NeverStops}
 use Rattle.rssd_run.specs.ImageRuns.{HasCells, RunsImage, RunsImageFront, IsFull}
 
 -- the words spell this command, whose numbers are within its limits
@@ -194,6 +200,42 @@ SaysUpgrade image out image_out WriteFault = IsUpgradeCutOff image image_out × 
 SaysUpgrade image out image_out OutOfMemory = TookNothing out × TookNothing image_out
 SaysUpgrade image out image_out status = ⊥
 
+-- ---- `audit`
+
+-- what each status says of an audit
+abbrev pub SaysAudit : Input → Output → Status → Type 0
+SaysAudit image out Done = IsAudited image out
+SaysAudit image out BadImage = IsNoImage false image out
+SaysAudit image out ReadFault = ReadFailed image × TookNothing out
+SaysAudit image out WriteFault = IsAuditCutOff image out
+SaysAudit image out OutOfMemory = TookNothing out
+SaysAudit image out Unsound = IsUnsound image out
+SaysAudit image out status = ⊥
+-- ---- `worn` and `pair`
+-- every line is in the grammar, some line is not played, and `out` took the line that says which is the first
+pub record HasUnplayed (script : Input) (out : Output) : Type 0 where
+  pub lines : List Line
+  pub is_script : HasLines script lines
+  pub k : ℕ
+  pub first : FirstUnplayed lines k
+  pub line : GaveLine out (bad_line k)
+-- all of the script was taken, each of its lines is played, and the play ended so
+pub record PlaysScript (Start : View → Type 0) (P : Step → Type 0) (d : Numbers) (script : Input) (out : Output) (status : Status) : Type 0 where
+  pub played : All IsPlayed lines
+  pub ends : EndsPlay Start P d lines out status
+-- what each status says of a play
+abbrev pub SaysPlay : (View → Type 0) → (Step → Type 0) → Numbers → Input → Output → Status → Type 0
+SaysPlay Start P d script out Done = PlaysScript Start P d script out Done
+SaysPlay Start P d script out BadScript = IsRefused script out ⊎ HasUnplayed script out
+SaysPlay Start P d script out ReadFault = ReadFailed script × TookNothing out
+SaysPlay Start P d script out WriteFault = PlaysScript Start P d script out WriteFault
+SaysPlay Start P d script out OutOfMemory = TookNothing out
+SaysPlay Start P d script out status = ⊥
+abbrev pub SaysWorn : ImageHead → ℕ → ℕ → Input → Output → Status → Type 0
+SaysWorn head reserve bad script out status = SaysPlay (IsWornStart head reserve bad) (IsWornStep head reserve bad) (numbers_named head) script out status
+abbrev pub SaysPair : ImageHead → Input → Output → Status → Type 0
+SaysPair head script out status = SaysPlay (IsPairStart head) NeverStops (numbers_named head) script out status
+
 -- ---- all commands
 
 -- `out` took the line for words that are no command
@@ -207,6 +249,9 @@ SaysOf Run call status = SaysRun call.image call.script call.out call.image_out 
 SaysOf (Make seed count head) call status = SaysMake head seed count call.out status
 SaysOf (Format head) call status = SaysFormat head call.image_out status × TookNothing call.out
 SaysOf Upgrade call status = SaysUpgrade call.image call.out call.image_out status × TakesImage true call.image.before call.image.after
+SaysOf Audit call status = SaysAudit call.image call.out status × TakesImage false call.image.before call.image.after
+SaysOf (Worn head reserve bad) call status = SaysWorn head reserve bad call.script call.out status × TakesScript call.script.before call.script.after
+SaysOf (Pair head) call status = SaysPair head call.script call.out status × TakesScript call.script.before call.script.after
 SaysOf command call status = AreBad call status
 
 -- no source and no sink failed
@@ -221,6 +266,12 @@ pub record HasScript (call : Call) : Type 0 where
   pub lines : List Line
   pub is_script : Reads (taken call.script) lines
 
+-- what was taken of the script is in its grammar, and each line is played
+pub record HasPlayed (call : Call) : Type 0 where
+  pub lines : List Line
+  pub is_script : Reads (taken call.script) lines
+  pub played : All IsPlayed lines
+
 -- what was taken of the image is in its grammar, and some block of its die has no live record
 pub record HasImage (call : Call) : Type 0 where
   pub head : ImageHead
@@ -234,6 +285,14 @@ pub record HasOldImage (call : Call) : Type 0 where
   pub cells : List ℕ
   pub is_image : image_read true (taken call.image) ≡ Ok (head, cells)
 
+-- what was taken of the image is in its grammar, and an audit of it finds its cells sound
+pub record HasSoundImage (call : Call) : Type 0 where
+  pub head : ImageHead
+  pub cells : List ℕ
+  pub is_image : image_read false (taken call.image) ≡ Ok (head, cells)
+  pub told : List (ℕ × List ℕ)
+  pub audit : IsAuditOf head cells Sound told
+
 -- all that a command reads is in its grammar
 abbrev pub IsAsked : Command → Call → Type 0
 IsAsked (Replay head) call = HasScript call
@@ -241,6 +300,9 @@ IsAsked Run call = HasScript call × HasImage call
 IsAsked (Make seed count head) call = Unit {0}
 IsAsked (Format head) call = Unit {0}
 IsAsked Upgrade call = HasOldImage call
+IsAsked Audit call = HasSoundImage call
+IsAsked (Worn head reserve bad) call = HasPlayed call
+IsAsked (Pair head) call = HasPlayed call
 IsAsked command call = ⊥
 
 -- then the status is 0, or 7
@@ -257,11 +319,14 @@ pub record Says (call : Call) (status : Status) : Type 0 where
 abbrev pub LeavesScript : Command → Type 0
 LeavesScript (Replay head) = ⊥
 LeavesScript Run = ⊥
+LeavesScript (Worn head reserve bad) = ⊥
+LeavesScript (Pair head) = ⊥
 LeavesScript command = Unit {0}
 
 abbrev pub LeavesImage : Command → Type 0
 LeavesImage Run = ⊥
 LeavesImage Upgrade = ⊥
+LeavesImage Audit = ⊥
 LeavesImage command = Unit {0}
 
 abbrev pub LeavesImageOut : Command → Type 0

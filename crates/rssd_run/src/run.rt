@@ -7,11 +7,14 @@ ghost use Rattle.rssd_run.specs.Exchanges.{AnswersSession, AnswersAll, AnswersFr
 ghost use Rattle.rssd_run.specs.Run.{RunsSession, CutsOffSession};
 ghost use Rattle.rssd_run.specs.Shows.{SessionValue, CanStep, HasNumbers, KeepsSession, StepsSession};
 
+pub mod audit_run;
 pub mod image;
 pub mod image_run;
 pub mod line;
 pub mod make_run;
 pub mod on_die;
+pub mod play_run;
+pub mod playing;
 pub mod replay;
 pub mod reuse;
 pub mod schemes;

@@ -16,4 +16,6 @@ pub enum Status {
     /// A sink failed.
     WriteFault = 6,
     OutOfMemory = 7,
+    /// The image was read, and an audit finds that its cells are not sound.
+    Unsound = 8,
 }

@@ -1,5 +1,5 @@
-//! The top call: words and input to output and a status. It knows the commands `replay`, `run`, `format`, `make` and
-//! `upgrade`; any other words are bad.
+//! The top call: words and input to output and a status. It knows the commands `replay`, `run`, `format`, `make`, `upgrade`,
+//! `worn`, `pair` and `audit`; any other words are bad.
 ghost use Rattle.std.specs.Prelude.{◌≡◌, ℕ, List, map, string_bytes, true, false};
 ghost use Rattle.die_image.specs.Image.{is_within_limits};
 ghost use Rattle.rssd_run.specs.declared.status.Status.{Status as How};
@@ -10,10 +10,12 @@ ghost use Rattle.rssd_run.specs.Top.{Says, SaysFormat, SaysOf, SaysReplay, SaysR
 ghost use Rattle.rssd_words.specs.Commands.{IsWithin};
 
 use crate::refusal::{refuse, refuse_image, refuse_script, refuse_words};
+use crate::run::audit_run::answer_audit;
 use crate::run::image::{ImageReadError, give_image, read_image};
 use crate::run::image_run::{blank_cells, cells_of, run_image};
 use crate::run::make_run::answer_make;
 use crate::run::on_die::RunError;
+use crate::run::play_run::{answer_pair, answer_worn};
 use crate::run::replay::replay;
 use crate::run::script::{ReadError, read_script};
 use crate::run::workload::Seeded;
@@ -163,6 +165,11 @@ fn answer_command<I: Source, T: Source, O: Sink, G: Sink>(
             answer_make(alloc, head, seeded, out)
         }
         Command::Upgrade => answer_upgrade(alloc, image, out, image_out),
+        Command::Audit => answer_audit(alloc, image, out),
+        Command::Worn { head, reserve, bad } => {
+            answer_worn(alloc, head, *reserve, *bad, script, out)
+        }
+        Command::Pair(head) => answer_pair(alloc, head, script, out),
         _ => refuse_words(out),
     }
 }
@@ -203,13 +210,19 @@ fn answer<I: Source, T: Source, O: Sink, G: Sink>(
 /// - `make SEED COUNT SCHEME BLOCKS PAGES SECTORS REUSE` steps the lines of a workload, which is a function of its seed, on a blank
 ///   die, and gives two lines to `out`: the reply to `stat`, and what the sectors hold.
 /// - `upgrade` reads an image of version 1, and gives the image of version 2 with the same head and cells to `image_out`.
+/// - `audit` reads an image and mounts nothing. It gives the line of the verdict to `out`, and where the cells are sound one line
+///   for each sector that has a live record.
+/// - `worn SCHEME BLOCKS PAGES SECTORS REUSE RESERVE BAD` reads the script, each line of which a device is to play: `cut`,
+///   `failread`, `mount` and `stat` are bad lines here. It plays the lines on a blank die with RESERVE reserve blocks, each BAD-th
+///   erase of which makes its block bad, and gives the replies to `out`.
+/// - `pair SCHEME BLOCKS PAGES SECTORS REUSE` does the same on two blank dies of half the blocks each, as one.
 ///
 /// The other commands are not known yet: their words are bad. A source that the command does not read, and a sink that it does
 /// not write, are as before the call.
 ///
 /// The status is 0 where all input was read to its end and all output was given and handed on; 2 where the words are no command; 3 where the
 /// script is refused; 4 where the image is, or each of its blocks has a live record; 5 where a source failed; 6 where a sink
-/// failed; 7 for want of memory. Before 2, 3 and 4 one line to `out` says so.
+/// failed; 7 for want of memory; 8 where `audit` finds cells that are not sound. Before 2, 3, 4 and 8 one line to `out` says so.
 pub fn rssd<I: Source, T: Source, O: Sink, G: Sink>(
     alloc: Global,
     words: &[String],
