@@ -5,6 +5,7 @@ _rssd() {
         replay
         format
         run
+        audit
         make
         upgrade
     )

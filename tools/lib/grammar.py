@@ -8,6 +8,7 @@ COMMANDS = {
     "replay": HEAD,
     "format": HEAD,
     "run": (),
+    "audit": (),
     "make": ("SEED", "COUNT", *HEAD),
     "upgrade": (),
 }
@@ -27,6 +28,7 @@ STATUSES = {
     5: "standard input or die.img could not be read; is there a die.img in this folder?",
     6: "standard output or die.new could not be written; die.new is as before",
     7: "there was no memory",
+    8: "`audit` found that the cells of die.img are not sound; the line that was printed says where, and tools/die info die.img says more",
     70: "./rssd could not build the program; build/log says why",
 }
 
