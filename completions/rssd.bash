@@ -4,6 +4,8 @@ _rssd() {
     local commands=(
         replay
         format
+        worn
+        pair
         run
         audit
         make
@@ -18,6 +20,13 @@ _rssd() {
     case $command in
         replay) ;;
         format) ;;
+        pair) ;;
+        worn)
+            case $COMP_CWORD in
+                7) [ -n "$word" ] || COMPREPLY=("RESERVE:0..${pages:-2}" " ") ;;
+                8) [ -n "$word" ] || COMPREPLY=(BAD:0..4294967295 " ") ;;
+            esac
+            ;;
         make)
             blocks=${COMP_WORDS[5]-} pages=${COMP_WORDS[6]-} at=$((COMP_CWORD - 2))
             case $COMP_CWORD in
