@@ -1,14 +1,32 @@
 # Completion of rssd for bash: source this file, or put it into /usr/share/bash-completion/completions/rssd
 _rssd() {
     local word=${COMP_WORDS[COMP_CWORD]} command=${COMP_WORDS[1]-} blocks=${COMP_WORDS[3]-} pages=${COMP_WORDS[4]-}
+    local commands=(
+        replay
+        format
+        worn
+        pair
+        run
+        audit
+        make
+        upgrade
+    )
     COMPREPLY=()
     if [ "$COMP_CWORD" = 1 ]; then
-        mapfile -t COMPREPLY < <(compgen -W "replay run format make upgrade" -- "$word")
+        mapfile -t COMPREPLY < <(compgen -W "${commands[*]}" -- "$word")
         return
     fi
     local at=$COMP_CWORD
     case $command in
-        replay | format) ;;
+        replay) ;;
+        format) ;;
+        pair) ;;
+        worn)
+            case $COMP_CWORD in
+                7) [ -n "$word" ] || COMPREPLY=("RESERVE:0..${pages:-2}" " ") ;;
+                8) [ -n "$word" ] || COMPREPLY=(BAD:0..4294967295 " ") ;;
+            esac
+            ;;
         make)
             blocks=${COMP_WORDS[5]-} pages=${COMP_WORDS[6]-} at=$((COMP_CWORD - 2))
             case $COMP_CWORD in

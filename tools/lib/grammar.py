@@ -6,14 +6,22 @@ from formats import BLOCKS, MOST_ARMED, MOST_DIE_BYTES, MOST_SCRIPT_BYTES, MOST_
 HEAD = ("SCHEME", "BLOCKS", "PAGES", "SECTORS", "REUSE")
 COMMANDS = {
     "replay": HEAD,
-    "run": (),
     "format": HEAD,
+    "worn": (*HEAD, "RESERVE", "BAD"),
+    "pair": HEAD,
+    "run": (),
+    "audit": (),
     "make": ("SEED", "COUNT", *HEAD),
     "upgrade": (),
-    "audit": (),
 }
-TO_COME = ("queue", "worn", "pair")
-READ_A_SCRIPT = ("replay", "run")
+TO_COME = [name for name in ("queue", "worn", "pair", "audit") if name not in COMMANDS]
+READ_A_SCRIPT = (
+    "replay",
+    "run",
+    "worn",
+    "pair",
+)
+NOT_PLAYED = ("cut", "failread", "mount", "stat")
 MOST_COUNT = 20_000
 LINES = {"write": 2, "read": 1, "trim": 1, "idle": 1, "cut": 2, "failread": 1, "mount": 0, "stat": 0}
 
@@ -25,7 +33,7 @@ STATUSES = {
     5: "standard input or die.img could not be read; is there a die.img in this folder?",
     6: "standard output or die.new could not be written; die.new is as before",
     7: "there was no memory",
-    8: "the cells of die.img are not sound; the line says which part of soundness does not hold, and where",
+    8: "`audit` found that the cells of die.img are not sound; the line that was printed says where, and tools/die info die.img says more",
     70: "./rssd could not build the program; build/log says why",
 }
 
@@ -83,7 +91,23 @@ def numbers_fault(command, given):
     fault = head_fault([given[name] for name in HEAD])
     if command == "make":
         fault = number_fault("SEED", given["SEED"], 0, 2**64 - 1) or number_fault("COUNT", given["COUNT"], 0, MOST_COUNT) or fault
+    if command == "worn" and not fault:
+        fault = worn_fault(given)
+    if command == "pair" and not fault and int(given["BLOCKS"]) % 2:
+        fault = f"BLOCKS is {given['BLOCKS']}: it is to be even, for two dies of as many blocks"
     return fault
+
+
+def worn_fault(given):
+    """Why a die cannot have so many reserve blocks, or erases go bad so."""
+    fault = number_fault("RESERVE", given["RESERVE"], 0, int(given["PAGES"])) or number_fault("BAD", given["BAD"], 0, MOST_SECTOR_NUMBER)
+    if fault:
+        return fault
+    inner = int(given["BLOCKS"]) + int(given["RESERVE"]) + 1
+    if inner > BLOCKS[-1]:
+        return f"the die has {inner:,} blocks, with the reserve and the table: at most {BLOCKS[-1]:,}"
+    head = Head(SCHEMES[given["SCHEME"]], inner, int(given["PAGES"]), int(given["SECTORS"]), int(given["REUSE"]))
+    return f"the die has {head.die_bytes:,} bytes, with the reserve and the table: at most {MOST_DIE_BYTES:,}" if head.die_bytes > MOST_DIE_BYTES else None
 
 
 def bytes_fault(digits):
@@ -129,6 +153,14 @@ def line_fault(line):
     if command == "cut" and not re.fullmatch("none|all|mask:[0-9a-f]{16}", rest[1]):
         return f"TORN is `{rest[1]}`: it is to be none, all, or mask: with 16 digits of 0 to 9 and a to f"
     return None
+
+
+def unplayed_fault(command, text):
+    """The first line that `worn` and `pair` do not know, where each line is a line of a script."""
+    if command not in ("worn", "pair"):
+        return None
+    lines = text.decode("latin-1").split("\n")
+    return next(((number, f"`{command}` knows no line `{line.split(' ')[0]}`") for number, line in enumerate(lines, 1) if line.split(" ")[0] in NOT_PLAYED), None)
 
 
 def script_fault(text):

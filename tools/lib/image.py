@@ -188,28 +188,37 @@ class Image:
 
     # What a power cut cannot have left.
 
-    def faults(self):
-        """The findings against sound cells, in the order: headers, equal seqs, no free block, seqs past the end."""
-        found = [
-            f"header of page {record.page} slot {record.slot} lies below no valid header"
-            for record in self.records
-            if record.header is None and not lies_below_a_header(record.word)
-        ]
-        first_with = {}
-        for record in self.records:
-            if record.header is None:
-                continue
-            other = first_with.setdefault(record.header.seq, record)
-            if other is not record:
-                found.append(f"page {other.page} slot {other.slot} and page {record.page} slot {record.slot} have the same seq")
+    def findings(self):
+        """The findings against sound cells, in the order: headers, equal seqs, no free block, seqs past the end. Each has the word
+        of the program's `audit`, and the records."""
+        found = [("header", [record]) for record in self.records if record.header is None and not lies_below_a_header(record.word)]
+        headers = [record for record in self.records if record.header is not None]
+        by_seq = {}
+        for record in headers:
+            by_seq.setdefault(record.header.seq, []).append(record)
+        found += [("seq", [same[0], other]) for same in by_seq.values() for other in same[1:]]
         if self.spare is None:
-            found.append("every block has a live record")
-        found += [
-            f"seq of page {record.page} slot {record.slot} is past the end"
-            for record in self.records
-            if record.header is not None and record.header.seq >= SOUND_SEQS
-        ]
-        return found
+            found.append(("spare", []))
+        return found + [("number", [record]) for record in headers if record.header.seq >= SOUND_SEQS]
+
+    def faults(self):
+        """The findings in words."""
+        says = {
+            "header": "header of {} lies below no valid header",
+            "seq": "{} and {} have the same seq",
+            "spare": "every block has a live record",
+            "number": "seq of {} is past the end",
+        }
+        return [says[word].format(*(f"page {record.page} slot {record.slot}" for record in records)) for word, records in self.findings()]
+
+    def audit(self):
+        """The lines that the program's `audit` prints."""
+        found = self.findings()
+        if found:
+            word, records = found[0]
+            return [" ".join(["unsound", word, *(f"{record.page} {record.slot}" for record in records)])]
+        first = dict.fromkeys(record.header.sector for record in self.records if record.is_committed)
+        return ["sound", *(f"{sector} {digits(self.holds(sector))}" for sector in first)]
 
 
 def digits(row):

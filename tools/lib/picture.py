@@ -4,7 +4,7 @@ from xml.sax.saxutils import escape
 from formats import KINDS
 
 SQUARE, GAP, ROW, LEFT, TOP = 13, 1, 17, 116, 34
-LEGEND_WIDTH, LEGEND_ROW = 150, 18
+LETTER, LEGEND_ROW = 7, 18
 BLANK, STALE, STALE_AGAIN, TORN = "#f7f7f5", "#cfd4da", "#9aa3ad", "#d1495b"
 LIVE = ("#2e6f9e", "#3d8b5f", "#c98a1b")
 LIVE_NAMES = ("live, first write", "live, second write", "live, third write")
@@ -57,11 +57,12 @@ def draw(image):
     for record in image.records:
         by_page.setdefault(record.page, []).append(record)
     legend = legend_of(image)
-    width = max(LEFT + head.pages * (SQUARE + GAP) + 12, 12 + 3 * LEGEND_WIDTH)
-    across = max(1, (width - 12) // LEGEND_WIDTH)
+    title = f"{head.scheme.name}, {head.blocks} blocks of {head.pages} pages, {head.sectors} sectors, reuse {head.reuse}"
+    column = SQUARE + 18 + LETTER * max(len(name) for _, name in legend)
+    width = max(LEFT + head.pages * (SQUARE + GAP) + 12, 12 + 3 * column, 20 + LETTER * len(title))
+    across = (width - 12) // column
     legend_top = TOP + head.blocks * ROW + 12
     height = legend_top + -(-len(legend) // across) * LEGEND_ROW + 6
-    title = f"{head.scheme.name}, {head.blocks} blocks of {head.pages} pages, {head.sectors} sectors, reuse {head.reuse}"
     lines = [
         f'<svg xmlns="http://www.w3.org/2000/svg" width="{width}" height="{height}" font-family="monospace" font-size="11">',
         '<rect width="100%" height="100%" fill="white"/>',
@@ -70,7 +71,7 @@ def draw(image):
     for block in range(head.blocks):
         lines += block_row(image, block, TOP + block * ROW, by_page)
     for number, (colour, name) in enumerate(legend):
-        row, column = divmod(number, across)
-        x, y = 12 + column * LEGEND_WIDTH, legend_top + row * LEGEND_ROW
+        row, place = divmod(number, across)
+        x, y = 12 + place * column, legend_top + row * LEGEND_ROW
         lines += [square(x, y, colour), text(x + SQUARE + 6, y + 11, name)]
     return "\n".join([*lines, "</svg>"]) + "\n"

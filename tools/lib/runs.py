@@ -145,6 +145,8 @@ def run(case):
     row["wear_least"], row["wear_mean"], row["wear_most"], row["wear_missed"] = (
         (min(seen), round(sum(seen) / len(seen), 1), max(seen), erased - sum(seen)) if seen else ("", "", "", "")
     )
+    if seen:
+        row["wear_blocks"] = " ".join(map(str, seen))
     return row
 
 
