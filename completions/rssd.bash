@@ -3,6 +3,7 @@ _rssd() {
     local word=${COMP_WORDS[COMP_CWORD]} command=${COMP_WORDS[1]-} blocks=${COMP_WORDS[3]-} pages=${COMP_WORDS[4]-}
     local commands=(
         replay
+        queue
         format
         worn
         pair
@@ -19,6 +20,7 @@ _rssd() {
     local at=$COMP_CWORD
     case $command in
         replay) ;;
+        queue) ;;
         format) ;;
         pair) ;;
         worn)

@@ -6,6 +6,7 @@ from formats import BLOCKS, MOST_ARMED, MOST_DIE_BYTES, MOST_SCRIPT_BYTES, MOST_
 HEAD = ("SCHEME", "BLOCKS", "PAGES", "SECTORS", "REUSE")
 COMMANDS = {
     "replay": HEAD,
+    "queue": HEAD,
     "format": HEAD,
     "worn": (*HEAD, "RESERVE", "BAD"),
     "pair": HEAD,
@@ -17,6 +18,7 @@ COMMANDS = {
 TO_COME = [name for name in ("queue", "worn", "pair", "audit") if name not in COMMANDS]
 READ_A_SCRIPT = (
     "replay",
+    "queue",
     "run",
     "worn",
     "pair",
