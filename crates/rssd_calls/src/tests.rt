@@ -149,7 +149,7 @@ fn bad_words_and_bad_lines_are_told(rt: HostRuntime) {
         ("run", b"read\n", 3, b"bad line 1\n"),
         ("replay plain16 4 2 03 1", b"", 2, b"bad words\n"),
         ("replay plain16 4 2 6 1", b"", 2, b"bad words\n"),
-        ("audit", b"", 2, b"bad words\n"),
+        ("audit 1", b"", 2, b"bad words\n"),
     ] {
         let ends = Ends {
             image: b"",
@@ -238,6 +238,35 @@ fn an_end_that_fails_is_told(rt: HostRuntime) -> Result<(), Fail> {
         let got = call(rt.alloc(), &rt, "run", ends);
         assert_eq!(rt; (got.status, got.out.as_slice()), (status, text));
         assert_eq!(rt; got.image.as_slice(), &HEAD[..given]);
+    }
+    Ok(())
+}
+
+#[test]
+fn an_audit_tells_its_verdict_and_keeps_it_where_out_fails(rt: HostRuntime) -> Result<(), Fail> {
+    let sound = written(rt.alloc())?;
+    let mut unsound = sound.clone()?;
+    assert!(rt; 70 < unsound.len());
+    unsound[70] = 0x67;
+    for (image, image_fails, room, status, text) in [
+        (&sound, 0, 64, 0, b"sound\n0 a5\n".as_slice()),
+        (&sound, 0, 8, 6, b"sound\n"),
+        (&sound, 1, 64, 5, b""),
+        (&unsound, 0, 64, 8, b"unsound header 0 0\n"),
+        (&unsound, 0, 8, 8, b""),
+    ] {
+        let ends = Ends {
+            image,
+            script: b"no line\n",
+            fail: Fails {
+                image: image_fails,
+                ..NONE
+            },
+            room,
+        };
+        let got = call(rt.alloc(), &rt, "audit", ends);
+        assert_eq!(rt; (got.status, got.out.as_slice()), (status, text));
+        assert!(rt; got.image.is_empty());
     }
     Ok(())
 }
