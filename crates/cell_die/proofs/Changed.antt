@@ -28,13 +28,16 @@ module _ (old mid new : DieState) (still : IsStill old mid) where
 
   whole_first : IsWhole mid new → IsWhole old new
   whole_first (inl p) = inl (p.0, p.1, record { above = subst (λ (cells : List ℕ). IsAbove p.1 cells) (same_page p.0) p.2.above; cells = p.2.cells; only = page_only p.0 p.2.only })
-  whole_first (inr e) = inr (e.0, record {
-    erased = record {
-      blank = λ page here. rw (sym still.shape) (e.1.erased.blank page (sym (same_block page) ∙ here));
-      count = rw (sym still.same.erases) e.1.erased.count;
-    };
-    only = block_only e.0 e.1.only;
-  })
+  whole_first (inr e) = inr (
+    e.0,
+    record {
+      erased = record {
+        blank = λ page here. rw (sym still.shape) (e.1.erased.blank page (sym (same_block page) ∙ here));
+        count = rw (sym still.same.erases) e.1.erased.count;
+      };
+      only = block_only e.0 e.1.only;
+    },
+  )
 
 -- ---- one after the other
 

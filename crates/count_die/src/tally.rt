@@ -1,6 +1,6 @@
 //! What was counted: for each block its reads, programs, charges and erases, and for each page its programs, and its programs
 //! and charges, since the last erase of its block. Every count stands still at 2^64 - 1.
-ghost use Rattle.std.specs.Prelude.{◌≡◌, ◌<◌, ◌≤◌, ◌+◌, ◌*◌, length};
+ghost use Rattle.std.specs.Prelude.{◌≡◌, ◌<◌, ◌≤◌, ◌+◌, ◌*◌, ◌^◌, length, slice_index};
 ghost use Rattle.cell_die.specs.Counts.{sum_of};
 ghost use Rattle.count_die.specs.Counted.{raised_at, at_least_at, BeginsAnew, HasSizes};
 
@@ -19,6 +19,11 @@ pub struct Tally {
     changes_since: Vec<u64>,
     most_programs: Vec<u64>,
     most_changes: Vec<u64>,
+    totals: Totals,
+    ghost sum_reads: { totals.reads ≡ sum_of reads.items },
+    ghost sum_programs: { totals.programs ≡ sum_of programs.items },
+    ghost sum_charges: { totals.charges ≡ sum_of charges.items },
+    ghost sum_erases: { totals.erases ≡ sum_of erases.items },
     ghost sizes: { HasSizes blocks pages (record {
       reads = reads.items;
       programs = programs.items;
@@ -43,9 +48,21 @@ pub struct Totals {
 /// One more at this place.
 fn raise(counts: &mut [u64], place: usize)
     requires { place < length counts.old }
-    ensures { counts.new ≡ raised_at counts.old place }
+    ensures raised { counts.new ≡ raised_at counts.old place }
+    ensures small { slice_index counts.old place < 2 ^ 64 }
 {
     counts[place] = counts[place].saturating_add(1);
+}
+
+/// One more at this place, and in the sum of all.
+fn raise_in(counts: &mut [u64], place: usize, total: &mut u64)
+    requires place { place < length counts.old }
+    requires sum { total.old ≡ sum_of counts.old }
+    ensures counts { counts.new ≡ raised_at counts.old place }
+    ensures sum { total.new ≡ sum_of counts.new }
+{
+    raise(counts, place);
+    *total = total.saturating_add(1);
 }
 
 /// No less than this at this place.
@@ -68,19 +85,8 @@ fn begin_anew(counts: &mut [u64], pages: u32, block: u32)
     }
 }
 
-/// The sum of counts; it stands still at 2^64 - 1.
-fn sum_of(counts: &[u64]) -> u64
-    ensures { result ≡ sum_of counts.now }
-{
-    let mut total = 0u64;
-    for count in counts {
-        total = total.saturating_add(*count);
-    }
-    total
-}
-
 impl Tally {
-    ghost use Rattle.std.specs.Prelude.{◌/◌, IfOk, slice_index};
+    ghost use Rattle.std.specs.Prelude.{◌/◌, IfOk};
     ghost use Rattle.count_die.specs.Counted.{with_read, with_change, with_program, with_charge, with_erase, BlockBeginsAnew};
     ghost use Rattle.count_die.specs.Tallies.{counted_of, blocks_of, pages_of, IsZero};
 
@@ -103,6 +109,12 @@ impl Tally {
             changes_since: vec![in alloc; 0u64; of_pages]?,
             most_programs: vec![in alloc; 0u64; of_blocks]?,
             most_changes: vec![in alloc; 0u64; of_blocks]?,
+            totals: Totals {
+                reads: 0,
+                programs: 0,
+                charges: 0,
+                erases: 0,
+            },
         })
     }
 
@@ -123,7 +135,7 @@ impl Tally {
         ensures pages { self.new.pages ≡ self.old.pages }
     {
         let block = self.block_of(page);
-        raise(&mut self.reads, block);
+        raise_in(&mut self.reads, block, &mut self.totals.reads);
     }
 
     /// Counts a change of a page, beside the count of its own kind.
@@ -149,7 +161,7 @@ impl Tally {
         self.count_change(page);
         let block = self.block_of(page);
         let page = page as usize;
-        raise(&mut self.programs, block);
+        raise_in(&mut self.programs, block, &mut self.totals.programs);
         raise(&mut self.programs_since, page);
         keep_most(&mut self.most_programs, block, self.programs_since[page]);
     }
@@ -163,7 +175,7 @@ impl Tally {
     {
         self.count_change(page);
         let block = self.block_of(page);
-        raise(&mut self.charges, block);
+        raise_in(&mut self.charges, block, &mut self.totals.charges);
     }
 
     /// Counts an erase of a block.
@@ -173,7 +185,7 @@ impl Tally {
         ensures blocks { self.new.blocks ≡ self.old.blocks }
         ensures pages { self.new.pages ≡ self.old.pages }
     {
-        raise(&mut self.erases, block as usize);
+        raise_in(&mut self.erases, block as usize, &mut self.totals.erases);
     }
 
     /// A block was erased: the counts of its pages begin anew.
@@ -272,11 +284,6 @@ impl Tally {
         ensures charges { result.charges ≡ sum_of (counted_of self.now).charges }
         ensures erases { result.erases ≡ sum_of (counted_of self.now).erases }
     {
-        Totals {
-            reads: sum_of(&self.reads),
-            programs: sum_of(&self.programs),
-            charges: sum_of(&self.charges),
-            erases: sum_of(&self.erases),
-        }
+        self.totals
     }
 }

@@ -47,10 +47,13 @@ torn_counted (Mask mask) old new some is = is
 
 -- an erase that was cut before it changed a cell
 pub untouched : (torn : Torn) (block : ℕ) (old new : DieState) → torn ≡ Nothing → new.shape ≡ old.shape → SameCells old new → IsCut torn old new
-untouched Nothing block old new is shape same = inr (block, record {
-  cells = λ page here. ap (λ (cells : List (List ℕ)). page_at cells page) same.cells;
-  count = rw same.erases refl;
-  only = record { pages = λ page apart. ap (λ (cells : List (List ℕ)). page_at cells page) same.cells; counts = λ other apart. rw same.erases refl };
-})
+untouched Nothing block old new is shape same = inr (
+  block,
+  record {
+    cells = λ page here. ap (λ (cells : List (List ℕ)). page_at cells page) same.cells;
+    count = rw same.erases refl;
+    only = record { pages = λ page apart. ap (λ (cells : List (List ℕ)). page_at cells page) same.cells; counts = λ other apart. rw same.erases refl };
+  },
+)
 untouched All block old new is shape same = cc
 untouched (Mask mask) block old new is shape same = cc

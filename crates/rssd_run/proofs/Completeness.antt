@@ -196,4 +196,3 @@ completes Audit call status says asked none = audit_completes call status says.0
 completes (Worn head reserve bad) call status says asked none = play_completes _ _ (numbers_named head) call status says.0 asked none
 completes (Pair head) call status says asked none = play_completes _ _ (numbers_named head) call status says.0 asked none
 completes (Queue head) call status says asked none = queue_completes head call status says.0 asked none
-

@@ -48,8 +48,12 @@ returns-in-Cut-clause-failed c =
     let old = mem_state c.args.self.now in
     let within : c.args.cell < 8 * length (page_of old c.args.page) = rw ((mem_shaped c.args.self.now).lengths c.args.page c.requires.page) c.requires.cell in
     cut_call c.args.self.now c.tear_cell-in-Cut.new.self c.begin_change.new.self c.in-Cut.torn c.tear_cell-in-Cut.ensures.rest.supply c.in-Cut.ensures
-    (inl (c.args.page, charge (page_of old c.args.page) c.args.cell, record {
-      above = charge_above (page_of old c.args.page) c.args.cell within;
-      cells = torn_charge c.in-Cut.torn (page_of old c.args.page) c.args.cell (page_of (mem_state c.tear_cell-in-Cut.new.self) c.args.page) within c.tear_cell-in-Cut.ensures.page;
-      only = record { others = c.tear_cell-in-Cut.ensures.only_page.others; erases = c.tear_cell-in-Cut.ensures.only_page.erases };
-    }))
+    (inl (
+      c.args.page,
+      charge (page_of old c.args.page) c.args.cell,
+      record {
+        above = charge_above (page_of old c.args.page) c.args.cell within;
+        cells = torn_charge c.in-Cut.torn (page_of old c.args.page) c.args.cell (page_of (mem_state c.tear_cell-in-Cut.new.self) c.args.page) within c.tear_cell-in-Cut.ensures.page;
+        only = record { others = c.tear_cell-in-Cut.ensures.only_page.others; erases = c.tear_cell-in-Cut.ensures.only_page.erases };
+      },
+    ))

@@ -41,11 +41,14 @@ returns-in-Whole-clause-passed c =
 pub returns-in-Cut-clause-failed : goal.returns-in-Cut-clause-failed
 returns-in-Cut-clause-failed c =
     cut_call c.args.self.now c.tear_block-in-Cut.new.self c.begin_change.new.self c.in-Cut.torn c.tear_block-in-Cut.ensures.supply c.in-Cut.ensures
-    (inr (c.args.block, record {
-      cells = c.tear_block-in-Cut.ensures.pages;
-      count = torn_counted c.in-Cut.torn _ _ (search rules) c.tear_block-in-Cut.ensures.count;
-      only = record { pages = c.tear_block-in-Cut.ensures.only_block.pages; counts = c.tear_block-in-Cut.ensures.only_block.counts };
-    }))
+    (inr (
+      c.args.block,
+      record {
+        cells = c.tear_block-in-Cut.ensures.pages;
+        count = torn_counted c.in-Cut.torn _ _ (search rules) c.tear_block-in-Cut.ensures.count;
+        only = record { pages = c.tear_block-in-Cut.ensures.only_block.pages; counts = c.tear_block-in-Cut.ensures.only_block.counts };
+      },
+    ))
 
 pub returns-in-Cut-Nothing-clause-failed : goal.returns-in-Cut-Nothing-clause-failed
 returns-in-Cut-Nothing-clause-failed c =

@@ -70,5 +70,12 @@ pub returns-else-stopped-clause-answers : goal.returns-else-stopped-clause-answe
 returns-else-stopped-clause-answers g c =
     let old : DeviceValue = g.F.Device.device c.args.ftl.now in
     let new : DeviceValue = g.F.Device.device c.play_line.new.ftl in
-    inr (sym c.stopped.ensures ∙ c.if-stopped.false, (new, refl, played_on old.numbers c.args.line.now c.play_line.result old new
-    (is_played c.args.line.now (λ n torn. c.in_default.not-Cut n torn) (λ n. c.in_default.not-FailRead n) c.in_default.not-Mount c.in_default.not-Stat) c.play_line.ensures))
+    inr (
+      sym c.stopped.ensures ∙ c.if-stopped.false,
+      (
+        new,
+        refl,
+        played_on old.numbers c.args.line.now c.play_line.result old new
+            (is_played c.args.line.now (λ n torn. c.in_default.not-Cut n torn) (λ n. c.in_default.not-FailRead n) c.in_default.not-Mount c.in_default.not-Stat) c.play_line.ensures,
+      ),
+    )

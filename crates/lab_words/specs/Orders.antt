@@ -1,0 +1,46 @@
+-- The words of a laboratory, and what they ask for.
+use Rattle.std.specs.Prelude.{◌≡◌, ℕ, ◌^◌, ◌<◌, ◌≤◌, true, List, [], ◌∷◌, codes, decimal}
+use Rattle.die_image.specs.Image.{is_within_limits}
+use Rattle.rssd_words.specs.Commands.{head_words}
+use Rattle.lab_lines.specs.declared.kind.Kind.{Kind}
+use Rattle.lab_lines.specs.declared.kind.Kind.TheVariants.{Uniform, Hot, Zipf, Sequential, Mixed}
+use Rattle.lab_words.specs.declared.asked.Asked.{Asked}
+use Rattle.lab_words.specs.declared.asked.LinesFrom.{LinesFrom}
+use Rattle.lab_words.specs.declared.asked.LinesFrom.TheVariants.{Stream, Drawn}
+use Rattle.lab_words.specs.declared.asked.Voice.{Voice}
+use Rattle.lab_words.specs.declared.asked.Voice.TheVariants.{Loud, Quiet, Progress}
+
+-- the name of a kind of workload
+unfoldable pub kind_word : Kind → List ℕ
+kind_word Uniform = codes "uniform"
+kind_word Hot = codes "hot"
+kind_word Zipf = codes "zipf"
+kind_word Sequential = codes "sequential"
+kind_word Mixed = codes "mixed"
+
+-- the name of a voice
+unfoldable pub voice_word : Voice → List ℕ
+voice_word Loud = codes "loud"
+voice_word Quiet = codes "quiet"
+voice_word Progress = codes "progress"
+
+-- the words of where the lines come from, with the words of a voice and of a number among them, and others behind
+abbrev pub spelled_front : LinesFrom → List ℕ → List ℕ → List (List ℕ) → List (List ℕ)
+spelled_front Stream voice every rest = codes "play" ∷ voice ∷ every ∷ rest
+spelled_front (Drawn kind seed count idle) voice every rest = codes "draw" ∷ voice ∷ kind_word kind ∷ decimal seed ∷ decimal count ∷ decimal idle ∷ every ∷ rest
+
+-- the one spelling of an order
+abbrev pub words_of : Asked → List (List ℕ)
+words_of asked = spelled_front asked.from (voice_word asked.voice) (decimal asked.every) (head_words asked.head)
+
+-- the numbers of drawn lines are within limits
+abbrev pub IsDrawnWithin : LinesFrom → Type 0
+IsDrawnWithin Stream = Unit {0}
+IsDrawnWithin (Drawn kind seed count idle) = (seed < 2 ^ 64) × (count < 2 ^ 64) × (idle ≤ 1_000)
+
+-- the numbers of an order are within limits
+pub record IsWithin (asked : Asked) : Type 0 where
+  pub from : IsDrawnWithin asked.from
+  pub some : 1 ≤ asked.every
+  pub every : asked.every < 2 ^ 64
+  pub head : is_within_limits asked.head ≡ true

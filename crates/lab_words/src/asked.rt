@@ -1,0 +1,36 @@
+//! What is asked of a laboratory.
+use die_image::ImageHead;
+use lab_lines::Kind;
+
+/// Where the lines come from.
+#[derive(Clone, Copy, Debug, PartialEq, Eq)]
+pub enum LinesFrom {
+    /// Standard input.
+    Stream,
+    /// `count` of them are drawn from the seed, of which about `idle` of a thousand are idle ones.
+    Drawn {
+        kind: Kind,
+        seed: u64,
+        count: u64,
+        idle: u32,
+    },
+}
+
+/// What is told beside the tables.
+#[derive(Clone, Copy, Debug, PartialEq, Eq)]
+pub enum Voice {
+    /// Each reply.
+    Loud,
+    Quiet,
+    /// On standard error, how far the run has come.
+    Progress,
+}
+
+/// What is asked of a laboratory: lines, a row after each `every` of them, and a device.
+#[derive(Clone, Copy, Debug, PartialEq, Eq)]
+pub struct Asked {
+    pub from: LinesFrom,
+    pub voice: Voice,
+    pub every: u64,
+    pub head: ImageHead,
+}

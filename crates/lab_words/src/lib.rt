@@ -1,0 +1,12 @@
+//! The words of a laboratory's command line: each order has one spelling, and None comes where the words are none.
+#![tactic(auto)]
+
+mod asked;
+mod numbers;
+mod reading;
+
+pub use asked::{Asked, LinesFrom, Voice};
+pub use reading::read_words;
+
+#[cfg(test)]
+mod tests;

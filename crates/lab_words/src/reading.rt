@@ -1,0 +1,145 @@
+//! What the words ask for.
+ghost use Rattle.std.specs.Prelude.{◌≡◌, ℕ, List, true, [], ◌∷◌, ◌≤◌, ◌<◌, ◌^◌, map, length, IfSome, Some, codes, string_bytes, decimal};
+ghost use Rattle.die_image.specs.declared.head.ImageHead.{ImageHead as Head};
+ghost use Rattle.die_image.specs.Image.{is_within_limits};
+ghost use Rattle.rssd_words.specs.Commands.{head_words};
+ghost use Rattle.lab_lines.specs.declared.kind.Kind.{Kind as Chosen};
+ghost use Rattle.lab_words.specs.declared.asked.Asked.{Asked as Order};
+ghost use Rattle.lab_words.specs.declared.asked.Voice.{Voice as Told};
+ghost use Rattle.lab_words.specs.Orders.{kind_word, voice_word, words_of, spelled_front, IsDrawnWithin, IsWithin};
+
+use crate::numbers::{read_number, read_small};
+use crate::{Asked, LinesFrom, Voice};
+use die_image::{ImageHead, SchemeName, within_limits};
+use lab_lines::Kind;
+
+/// The head that five words spell.
+fn read_head(
+    scheme: &str,
+    blocks: &str,
+    pages: &str,
+    sectors: &str,
+    reuse_max: &str,
+) -> Option<ImageHead>
+    ensures found { IfSome result (λ head. (is_within_limits head ≡ true)
+        × (scheme.now ∷ blocks.now ∷ pages.now ∷ sectors.now ∷ reuse_max.now ∷ [] ≡ head_words head)) }
+    ensures only { (head : Head) → is_within_limits head ≡ true
+        → scheme.now ∷ blocks.now ∷ pages.now ∷ sectors.now ∷ reuse_max.now ∷ [] ≡ head_words head → result ≡ Some head }
+{
+    let head = ImageHead {
+        scheme: SchemeName::of_name(scheme)?,
+        blocks: read_small(blocks)?,
+        pages: read_small(pages)?,
+        sectors: read_small(sectors)?,
+        reuse_max: read_small(reuse_max)?,
+    };
+    if within_limits(&head) {
+        Some(head)
+    } else {
+        None
+    }
+}
+
+/// The kind of workload that a word names.
+#[tactic(auto, unfolding(crate::specs::Orders::kind_word))]
+fn read_kind(word: &str) -> Option<Kind>
+    ensures found { IfSome result (λ kind. word.now ≡ kind_word kind) }
+    ensures only { (kind : Chosen) → word.now ≡ kind_word kind → result ≡ Some kind }
+{
+    match word {
+        "uniform" => Some(Kind::Uniform),
+        "hot" => Some(Kind::Hot),
+        "zipf" => Some(Kind::Zipf),
+        "sequential" => Some(Kind::Sequential),
+        "mixed" => Some(Kind::Mixed),
+        _ => None,
+    }
+}
+
+/// The voice that a word names.
+#[tactic(auto, unfolding(crate::specs::Orders::voice_word))]
+fn read_voice(word: &str) -> Option<Voice>
+    ensures found { IfSome result (λ voice. word.now ≡ voice_word voice) }
+    ensures only { (voice : Told) → word.now ≡ voice_word voice → result ≡ Some voice }
+{
+    match word {
+        "loud" => Some(Voice::Loud),
+        "quiet" => Some(Voice::Quiet),
+        "progress" => Some(Voice::Progress),
+        _ => None,
+    }
+}
+
+/// The number of a word, which is not 0.
+fn read_every(word: &str) -> Option<u64>
+    ensures found { IfSome result (λ n. (1 ≤ n) × (n < 2 ^ 64) × (word.now ≡ decimal n)) }
+    ensures only { (n : ℕ) → 1 ≤ n → n < 2 ^ 64 → word.now ≡ decimal n → result ≡ Some n }
+{
+    let every = read_number(word)?;
+    if every == 0 { None } else { Some(every) }
+}
+
+/// The number of a word, at most a thousand.
+fn read_idle(word: &str) -> Option<u32>
+    ensures found { IfSome result (λ n. (n ≤ 1_000) × (word.now ≡ decimal n)) }
+    ensures only { (n : ℕ) → n ≤ 1_000 → word.now ≡ decimal n → result ≡ Some n }
+{
+    let idle = read_small(word)?;
+    if idle <= 1_000 { Some(idle) } else { None }
+}
+
+/// The lines of a workload that these words spell.
+fn read_drawn(kind: &str, seed: &str, count: &str, idle: &str) -> Option<LinesFrom>
+    ensures { IfSome result (λ from. IsDrawnWithin from × ((voice every : List ℕ) (rest : List (List ℕ))
+        → codes "draw" ∷ voice ∷ kind.now ∷ seed.now ∷ count.now ∷ idle.now ∷ every ∷ rest ≡ spelled_front from voice every rest)) }
+{
+    Some(LinesFrom::Drawn {
+        kind: read_kind(kind)?,
+        seed: read_number(seed)?,
+        count: read_number(count)?,
+        idle: read_idle(idle)?,
+    })
+}
+
+/// An order for these lines, with a voice and a number, and a head.
+fn order(from: LinesFrom, voice: &str, every: &str, head: Option<ImageHead>) -> Option<Asked>
+    requires from { IsDrawnWithin from }
+    requires head { IfSome head (λ h. is_within_limits h ≡ true) }
+    ensures within { IfSome result (λ asked. IsWithin asked) }
+    ensures from { IfSome result (λ asked. asked.from ≡ from) }
+    ensures voice { IfSome result (λ asked. voice.now ≡ voice_word asked.voice) }
+    ensures every { IfSome result (λ asked. every.now ≡ decimal asked.every) }
+    ensures head { IfSome result (λ asked. head ≡ Some asked.head) }
+{
+    Some(Asked {
+        from,
+        voice: read_voice(voice)?,
+        every: read_every(every)?,
+        head: head?,
+    })
+}
+
+/// What the words ask for: `play VOICE EVERY HEAD`, or `draw VOICE KIND SEED COUNT IDLE EVERY HEAD`, where HEAD is SCHEME BLOCKS
+/// PAGES SECTORS REUSE.
+pub fn read_words(words: &[String]) -> Option<Asked>
+    ensures { IfSome result (λ asked. IsWithin asked) }
+{
+    match words {
+        [name, voice, every, a, b, c, d, e] => {
+            if name.as_str() != "play" {
+                return None;
+            }
+            let head = read_head(a.as_str(), b.as_str(), c.as_str(), d.as_str(), e.as_str());
+            order(LinesFrom::Stream, voice.as_str(), every.as_str(), head)
+        }
+        [name, voice, kind, seed, count, idle, every, a, b, c, d, e] => {
+            if name.as_str() != "draw" {
+                return None;
+            }
+            let from = read_drawn(kind.as_str(), seed.as_str(), count.as_str(), idle.as_str())?;
+            let head = read_head(a.as_str(), b.as_str(), c.as_str(), d.as_str(), e.as_str());
+            order(from, voice.as_str(), every.as_str(), head)
+        }
+        _ => None,
+    }
+}
