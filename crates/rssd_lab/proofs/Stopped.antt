@@ -1,0 +1,59 @@
+-- What a run leaves that stopped, and that its log has grown.
+use Rattle.std.proofs.Common.{◌≡◌, ℕ, List, [], ◌∷◌, ◌++◌, Result, Ok, Err, refl, ap, sym, ◌∙◌, subst, append-nil}
+use Rattle.std.specs.Prelude.{IfErr}
+use Rattle.die_image.specs.declared.head.ImageHead.{ImageHead}
+use Rattle.rssd_core.specs.DeviceValue.{Numbers, DeviceValue}
+use Rattle.rssd_io.specs.Event.{Event, Grows}
+use Rattle.rssd_io.proofs.Logs.{came_behind}
+use Rattle.rssd_script.specs.declared.lines.Line.{Line}
+use Rattle.lab_lines.specs.declared.lines.LinesEnd.{LinesEnd}
+use Rattle.lab_tables.proofs.Failing.{failed_later}
+use Rattle.rssd_lab.specs.declared.telling.Telling.{Telling}
+use Rattle.rssd_lab.specs.declared.score.Score.{Score}
+use Rattle.rssd_lab.specs.declared.status.Stop.{Stop}
+use Rattle.rssd_lab.specs.declared.status.Stop.TheVariants.{Lines, NotPlayed, Sink, OutOfMemory}
+use Rattle.rssd_lab.specs.Chain.{Chain}
+use Rattle.rssd_lab.specs.Runs.{Answered, At, PlaysLines, StopsLines, StopsRun, IsFirst, handed, told_for, run_head, state_at}
+use Rattle.rssd_lab.specs.Blank.{IsBlankDevice, StopsBlank}
+
+pub grew : {L : Type 0} (gives : L → Line → L → Type 0) (d : Numbers) (telling : Telling) (old new : At L) (answered : List Answered) → PlaysLines gives d telling old answered new → Grows old.log new.log
+unfolding Chain
+grew {L} gives d telling old new [] same = ([], ap (λ (s : At L). s.log) same ∙ sym (append-nil old.log))
+grew gives d telling old new (first ∷ rest) chain =
+    let more = grew gives d telling chain.0 new rest chain.2 in
+    let given : List Event = handed (told_for telling chain.0.device chain.0.score first.reply) in
+    (given ++ more.0, came_behind old.log chain.0.log new.log given more.0 chain.1.told more.1)
+
+module _ {L : Type 0} (gives : L → Line → L → Type 0) (stops : L → LinesEnd → L → Type 0) (telling : Telling) (device : DeviceValue) where
+  pub stops_run : (score : Score) → IsFirst device score → (lines : L) (log between : List Event) → between ≡ log ++ handed (run_head ∷ []) → (why : Stop) (last : At L)
+      → StopsLines gives stops device.numbers telling (state_at lines device score between) why last → StopsRun gives stops telling device why lines last.lines log last.log
+  stops_run score first lines log between head (Lines why) last stopped = record {
+    score = score;
+    first = first;
+    last = last;
+    plays = subst (λ (l : List Event). StopsLines gives stops device.numbers telling (state_at lines device score l) (Lines why) last) head stopped;
+    lines_last = refl;
+    log_last = refl;
+  }
+  stops_run score first lines log between head (NotPlayed number) last stopped = record {
+    score = score;
+    first = first;
+    last = last;
+    plays = subst (λ (l : List Event). StopsLines gives stops device.numbers telling (state_at lines device score l) (NotPlayed number) last) head stopped;
+    lines_last = refl;
+    log_last = refl;
+  }
+  stops_run score first lines log between head Sink last stopped = failed_later log between last.log (handed (run_head ∷ [])) head stopped
+  stops_run score first lines log between head OutOfMemory last stopped = absurd stopped
+
+  blank_stops : (head : ImageHead) → IsBlankDevice head device → (lines after : L) (log log_after : List Event) (why : Stop)
+      → StopsRun gives stops telling device why lines after log log_after → StopsBlank gives stops telling head why lines after log log_after
+  blank_stops head blank lines after log log_after (Lines why) stopped = (device, blank, stopped)
+  blank_stops head blank lines after log log_after (NotPlayed number) stopped = (device, blank, stopped)
+  blank_stops head blank lines after log log_after Sink stopped = (device, blank, stopped)
+  blank_stops head blank lines after log log_after OutOfMemory stopped = absurd stopped
+
+  pub stops_blank : (r : Result (Unit {0}) Stop) (head : ImageHead) → IsBlankDevice head device → (lines after : L) (log log_after : List Event)
+      → IfErr r (λ why. StopsRun gives stops telling device why lines after log log_after) → IfErr r (λ why. StopsBlank gives stops telling head why lines after log log_after)
+  stops_blank (Ok x) head blank lines after log log_after stopped = tt
+  stops_blank (Err why) head blank lines after log log_after stopped = blank_stops head blank lines after log log_after why stopped

@@ -1,0 +1,5 @@
+pub mod Chain
+pub mod Pacing
+pub mod Runs
+pub mod Blank
+pub mod Top

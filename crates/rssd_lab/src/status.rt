@@ -1,0 +1,31 @@
+//! How a call ends. The number of a status is what the program ends with.
+use lab_lines::LinesEnd;
+
+/// How a call ends.
+#[derive(Clone, Copy, Debug, PartialEq, Eq)]
+pub enum Status {
+    /// All lines were played, and all tables were given.
+    Done = 0,
+    /// The words are no order.
+    BadWords = 2,
+    /// A line is outside the grammar.
+    BadLine = 3,
+    /// The source of the lines failed.
+    ReadFault = 5,
+    /// The sink failed.
+    WriteFault = 6,
+    OutOfMemory = 7,
+}
+
+/// Why not all lines were played.
+#[derive(Clone, Copy, Debug, PartialEq, Eq)]
+pub enum Stop {
+    /// No further line came, where more may have been wanted.
+    Lines(LinesEnd),
+    /// A line came that only a session takes. It has this number, from 1.
+    NotPlayed(u64),
+    /// The sink failed.
+    Sink,
+    /// There was no memory for the die, the scheme or the device.
+    OutOfMemory,
+}
