@@ -15,13 +15,15 @@ NOTED = ("scripts", "cut again", "failed reads", "mounts", "sectors read")
 
 
 def run(share, count, counts):
-    """Every `count`-th script."""
+    """All scripts; of a count every so-manieth, and then the schemes are shared out."""
     program = next((path for path in BUILT if os.access(path, os.X_OK)), None)
     if program is None:
         print(f"    not tried, since there is no {BUILT[1]}: {HINT}")
         return
-    for name, lines in LINES.items():
-        words = [name, str(lines), str(share.shard), str(share.of * count)]
+    for place, (name, lines) in enumerate(LINES.items()):
+        if count > 1 and not share.has(place):
+            continue
+        words = [name, str(lines), *map(str, (0, count) if count > 1 else (share.shard, share.of))]
         done = subprocess.run([program, *words], stdout=subprocess.PIPE, stderr=subprocess.DEVNULL, text=True)
         for number, word in re.findall(r"(\d+) (scripts|cuts|cut again|failed reads|mounts|sectors read)", done.stdout.split("\n")[0]):
             counts["cases" if word == "cuts" else word] += int(number)
