@@ -49,3 +49,33 @@ _rssd() {
     esac
 }
 complete -F _rssd rssd ./rssd build/rssd
+
+_lab() {
+    local word=${COMP_WORDS[COMP_CWORD]} command=${COMP_WORDS[1]-} at=$COMP_CWORD
+    COMPREPLY=()
+    case $COMP_CWORD in
+        1) mapfile -t COMPREPLY < <(compgen -W "play draw" -- "$word"); return ;;
+        2) mapfile -t COMPREPLY < <(compgen -W "quiet loud progress" -- "$word"); return ;;
+    esac
+    [ "$command" != draw ] || at=$((COMP_CWORD - 4))
+    if [ "$command" = draw ] && [ "$COMP_CWORD" -lt 8 ]; then
+        case $COMP_CWORD in
+            3) mapfile -t COMPREPLY < <(compgen -W "uniform hot zipf sequential mixed" -- "$word") ;;
+            4) [ -n "$word" ] || COMPREPLY=(SEED:0..18446744073709551615 " ") ;;
+            5) [ -n "$word" ] || COMPREPLY=(COUNT:0..18446744073709551615 " ") ;;
+            6) [ -n "$word" ] || COMPREPLY=(IDLE:0..1000 " ") ;;
+            7) [ -n "$word" ] || COMPREPLY=("EVERY:1.." " ") ;;
+        esac
+        return
+    fi
+    local blocks=${COMP_WORDS[COMP_CWORD - at + 5]-} pages=${COMP_WORDS[COMP_CWORD - at + 6]-}
+    case $at in
+        3) [ -n "$word" ] || COMPREPLY=("EVERY:1.." " ") ;;
+        4) mapfile -t COMPREPLY < <(compgen -W "plain16 rs16 rs512 coset16 coset512 flip16 flip512 ham16 ham512" -- "$word") ;;
+        5) [ -n "$word" ] || COMPREPLY=(BLOCKS:2..1024 " ") ;;
+        6) [ -n "$word" ] || COMPREPLY=(PAGES:2..128 " ") ;;
+        7) [ -n "$word" ] || COMPREPLY=("SECTORS:1..$(((${blocks:-2} - 1) * ${pages:-2} - 1))" " ") ;;
+        8) [ -n "$word" ] || COMPREPLY=("REUSE:0..${blocks:-2}" " ") ;;
+    esac
+}
+complete -F _lab lab ./lab build/lab
