@@ -1,4 +1,26 @@
 # Completion of rssd for bash: source this file, or put it into /usr/share/bash-completion/completions/rssd
+_disk() {
+    local word=${COMP_WORDS[COMP_CWORD]} blocks=${COMP_WORDS[4]-} pages=${COMP_WORDS[5]-} from=3
+    COMPREPLY=()
+    case $COMP_CWORD in
+        1) mapfile -t COMPREPLY < <(compgen -W "new open" -- "$word"); return ;;
+        2) mapfile -t COMPREPLY < <(compgen -f -- "$word"); return ;;
+    esac
+    [ "${COMP_WORDS[1]}" != new ] || from=8
+    if [ "$COMP_CWORD" -ge "$from" ]; then
+        mapfile -t COMPREPLY < <(compgen -W "cut sync none all mask:" -- "$word")
+        return
+    fi
+    case $COMP_CWORD in
+        3) mapfile -t COMPREPLY < <(compgen -W "plain16 rs16 rs512 coset16 coset512 flip16 flip512 ham16 ham512" -- "$word") ;;
+        4) [ -n "$word" ] || COMPREPLY=(BLOCKS:2..1024 " ") ;;
+        5) [ -n "$word" ] || COMPREPLY=(PAGES:2..128 " ") ;;
+        6) [ -n "$word" ] || COMPREPLY=("SECTORS:1..$(((${blocks:-2} - 1) * ${pages:-2} - 1))" " ") ;;
+        7) [ -n "$word" ] || COMPREPLY=("REUSE:0..${blocks:-2}" " ") ;;
+    esac
+}
+complete -F _disk disk ./disk build/disk
+
 _rssd() {
     local word=${COMP_WORDS[COMP_CWORD]} command=${COMP_WORDS[1]-} blocks=${COMP_WORDS[3]-} pages=${COMP_WORDS[4]-}
     local commands=(
