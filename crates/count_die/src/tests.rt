@@ -18,6 +18,13 @@ fn read_page(rt: &impl Abort, die: &mut CountDie<MemDie>, page: u32) -> Result<(
     die.read(page, &mut [0; 2])
 }
 
+/// Erases a block of a die of that shape.
+fn erase_block(rt: &impl Abort, die: &mut CountDie<MemDie>, block: u32) -> Result<(), DieFault> {
+    assert_eq!(rt; die.shape(), SHAPE);
+    assert!(rt; block < 2);
+    die.erase(block)
+}
+
 /// Charges a cell of a die of that shape.
 fn charge_cell(
     rt: &impl Abort,
@@ -59,7 +66,7 @@ fn an_erase_begins_the_pages_anew_and_keeps_the_most(rt: HostRuntime) -> Result<
     let inner = MemDie::blank(rt.alloc(), SHAPE)?;
     let mut die = CountDie::new(rt.alloc(), inner).ok().ok_or("no memory")?;
     assert_eq!(rt; die.program(2, &[0, 0]), Ok(()));
-    assert_eq!(rt; die.erase(1), Ok(()));
+    assert_eq!(rt; erase_block(&rt, &mut die, 1), Ok(()));
     let (inner, tally) = die.into_parts();
     assert_eq!(rt; inner.erased(), 1);
     assert_eq!(rt; (tally.blocks(), tally.pages()), (2, 2));
@@ -82,7 +89,7 @@ fn a_call_that_fails_is_counted(rt: HostRuntime) -> Result<(), Fail> {
     let inner = MemDie::blank(rt.alloc(), SHAPE)?;
     let mut die = CountDie::new(rt.alloc(), inner).ok().ok_or("no memory")?;
     die.arm_cut(1, Torn::Nothing);
-    assert_eq!(rt; die.erase(0), Err(DieFault));
+    assert_eq!(rt; erase_block(&rt, &mut die, 0), Err(DieFault));
     assert!(rt; !die.powered());
     die.power_on();
     die.fail_read(1);
