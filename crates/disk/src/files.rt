@@ -7,11 +7,9 @@ use crate::words::Cut;
 use cell_die::PowerDie;
 use die_image::{ImageHead, ImageReader};
 use file_die::{FileDie, FileMirror, OpenFault};
-use mem_die::MemDie;
 use rssd_io::{FileSink, StdSource};
 use rssd_run::run::image::{ImageReadError, give_image, read_image};
-use rssd_run::run::image_run::blank_cells;
-use rssd_run::run::on_die::die_shape;
+use rssd_run::run::image_run::{blank_cells, die_of};
 use std::fs;
 
 /// Makes the image of a die with no charged cell. A file that is there stays as it is.
@@ -51,8 +49,7 @@ pub fn open(
         Err(ImageReadError::Fault) => return Err(Status::ReadFault),
         Err(ImageReadError::Refused(why)) => return Err(of_image(why)),
     };
-    // The reader gives as many cells as the head's die has, so nothing but the memory refuses them.
-    let Ok(die) = MemDie::of_cells(rt.alloc(), die_shape(&head), cells) else {
+    let Ok(die) = die_of(rt.alloc(), &head, cells) else {
         return Err(Status::OutOfMemory);
     };
     let mut die = FileDie::new(die, mirror);

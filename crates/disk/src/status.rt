@@ -3,6 +3,7 @@
 use die_image::ImageError;
 use rssd_disk::Ended;
 use rssd_io::{Sink, StdSink};
+use rssd_run::image_line;
 
 /// How the program ends.
 #[derive(Clone, Copy, Debug, PartialEq, Eq)]
@@ -59,19 +60,6 @@ impl Status {
             Status::OutOfMemory => b"out of memory\n",
             Status::NoPower => b"the power was cut\n",
         }
-    }
-}
-
-/// The line that refuses an image.
-fn image_line(why: ImageError) -> &'static [u8] {
-    match why {
-        ImageError::OutOfMemory => b"out of memory\n",
-        ImageError::Magic => b"bad image magic\n",
-        ImageError::Version => b"bad image version\n",
-        ImageError::Shape => b"bad image shape\n",
-        ImageError::Short => b"bad image short\n",
-        ImageError::Long => b"bad image long\n",
-        ImageError::PadCells => b"bad image pad\n",
     }
 }
 

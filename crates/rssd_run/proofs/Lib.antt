@@ -19,6 +19,7 @@ pub mod Runs
 pub mod QueueActs
 pub mod QueueTags
 pub mod QueueLaws
+pub mod QueueTimes
 pub mod QueueReads
 pub mod Errors
 pub mod ReadScript

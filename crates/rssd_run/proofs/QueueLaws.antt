@@ -15,13 +15,13 @@ use Rattle.rssd_run.specs.QueueActs.{Place, Act, Put, Served, AtOnce, AreActs}
 use Rattle.rssd_run.specs.QueueLaws.{accepted_in, served_in, ServesAll}
 
 -- what the queue sees of the acts; what a command was answered is nothing to it
-abbrev events_of : List Act → List queue_runs.Event
+abbrev pub events_of : List Act → List queue_runs.Event
 events_of [] = []
 events_of (Put c ∷ acts) = queue_runs.Put c ∷ events_of acts
 events_of (Served c e ∷ acts) = queue_runs.Served c (Refused DieFault) ∷ events_of acts
 events_of (AtOnce tag e ∷ acts) = events_of acts
 
-abbrev seen : Waiting → queue_runs.State
+abbrev pub seen : Waiting → queue_runs.State
 seen queue = record { queue = queue; rows = [] }
 
 any_answer : (ask : Ask) → queue_runs.AnswersOf [] ask (Refused DieFault)
@@ -29,7 +29,7 @@ any_answer (asks.Write sector bytes) = tt
 any_answer (asks.Read sector) = tt
 any_answer (asks.Trim sector) = tt
 
-queue_run : (d : Numbers) (acts : List Act) (from to : Place) (before after : View) → AreActs d from before acts to after → queue_runs.IsRun (seen from.queue) (events_of acts) (seen to.queue)
+pub queue_run : (d : Numbers) (acts : List Act) (from to : Place) (before after : View) → AreActs d from before acts to after → queue_runs.IsRun (seen from.queue) (events_of acts) (seen to.queue)
 unfolding AreActs
 queue_run d [] from to before after run = ap (λ (p : Place). seen p.queue) run.0
 queue_run d (Put c ∷ acts) from to before after run =
@@ -45,7 +45,7 @@ same_accepted size (Put c ∷ acts) = ap (λ cs. accepted size c ∷ cs) (same_a
 same_accepted size (Served c e ∷ acts) = same_accepted size acts
 same_accepted size (AtOnce tag e ∷ acts) = same_accepted size acts
 
-same_served : (acts : List Act) → queue_runs.served_in (events_of acts) ≡ served_in acts
+pub same_served : (acts : List Act) → queue_runs.served_in (events_of acts) ≡ served_in acts
 same_served [] = refl
 same_served (Put c ∷ acts) = same_served acts
 same_served (Served c e ∷ acts) = ap (λ cs. c ∷ cs) (same_served acts)

@@ -1,6 +1,7 @@
--- What is true of every queue run: each command that was put is served once, and those of a sector in their order; and what reads tell.
-use Rattle.std.specs.Prelude.{◌≡◌, ℕ, List, [], ◌∷◌, ◌++◌}
-use Rattle.std.specs.List.{All}
+-- What is true of every queue run: each command that was put is served once, those of a sector in their order, and each soon; and what
+-- reads tell.
+use Rattle.std.specs.Prelude.{◌≡◌, ℕ, ◌≤◌, List, [], ◌∷◌, ◌++◌, length, take}
+use Rattle.std.specs.List.{All, Contains}
 use Rattle.std.specs.List.Sorted.{IsPermutation}
 use Rattle.rssd_queue.specs.declared.ask.Tagged.{Tagged}
 use Rattle.rssd_queue.specs.Waiting.{accepted}
@@ -29,6 +30,17 @@ pub record ServesAll (size : ℕ) (acts : List Act) : Type 0 where
   pub once : IsPermutation (accepted_in size acts) (served_in acts)
   -- of each sector the commands are served in the order in which they were put
   pub in_order : (sector : ℕ) → about sector (accepted_in size acts) ≡ about sector (served_in acts)
+
+-- ---- how soon
+
+-- each command that is put is among the next 1,024 that are served
+abbrev pub ServesSoon : ℕ → List Act → Type 0
+ServesSoon size acts = (before rest : List Act) (c : Tagged) → acts ≡ before ++ Put c ∷ rest → Contains (take 1024 (served_in rest)) (accepted size c)
+
+-- the same where so many are served, as of a run whose sink failed
+abbrev pub ServesSoonWhereServed : ℕ → List Act → Type 0
+ServesSoonWhereServed size acts = (before rest : List Act) (c : Tagged) → acts ≡ before ++ Put c ∷ rest → 1024 ≤ length (served_in rest)
+    → Contains (take 1024 (served_in rest)) (accepted size c)
 
 -- ---- reads
 

@@ -8,4 +8,5 @@ pub mod run;
 mod status;
 
 pub use program::main_of;
+pub use refusal::image_line;
 pub use run::top::rssd;

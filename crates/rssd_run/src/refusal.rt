@@ -1,6 +1,6 @@
 //! The lines of refusal: what `out` is told before a status that refuses words, a script or an image.
 ghost use Rattle.std.specs.Prelude.{◌≡◌};
-ghost use Rattle.rssd_run.specs.Statuses.{GaveLine, output, RefusesSo, RefusesImageSo, bad_line, bad_words};
+ghost use Rattle.rssd_run.specs.Statuses.{GaveLine, output, RefusesSo, RefusesImageSo, bad_image, bad_line, bad_words};
 
 use crate::status::Status;
 use arrayvec::ArrayVec;
@@ -54,13 +54,19 @@ pub fn refuse_script<O: Sink>(out: &mut O, why: ScriptError) -> Status
     }
 }
 
-/// Refuses an image with this line.
-fn refuse_with<O: Sink>(out: &mut O, line: &[u8]) -> Status
-    ensures status { result ≡ Status.BadImage }
-    ensures line { GaveLine (output (O.log out.old) (O.log out.new)) line.now }
+/// The line that refuses an image; there is none for want of memory.
+pub fn image_line(why: ImageError) -> &'static [u8]
+    ensures { result.now ≡ bad_image why }
 {
-    refuse(out, line);
-    Status::BadImage
+    match why {
+        ImageError::OutOfMemory => b"",
+        ImageError::Magic => b"bad image magic\n",
+        ImageError::Version => b"bad image version\n",
+        ImageError::Shape => b"bad image shape\n",
+        ImageError::Short => b"bad image short\n",
+        ImageError::Long => b"bad image long\n",
+        ImageError::PadCells => b"bad image pad\n",
+    }
 }
 
 /// Refuses an image.
@@ -69,11 +75,9 @@ pub fn refuse_image<O: Sink>(out: &mut O, why: ImageError) -> Status
 {
     match why {
         ImageError::OutOfMemory => Status::OutOfMemory,
-        ImageError::Magic => refuse_with(out, b"bad image magic\n"),
-        ImageError::Version => refuse_with(out, b"bad image version\n"),
-        ImageError::Shape => refuse_with(out, b"bad image shape\n"),
-        ImageError::Short => refuse_with(out, b"bad image short\n"),
-        ImageError::Long => refuse_with(out, b"bad image long\n"),
-        ImageError::PadCells => refuse_with(out, b"bad image pad\n"),
+        why => {
+            refuse(out, image_line(why));
+            Status::BadImage
+        }
     }
 }

@@ -23,8 +23,8 @@ use rssd_io::Sink;
 use rssd_script::Line;
 use std::alloc::{AllocError, Global};
 
-/// A die of an image's cells.
-fn die_of(alloc: Global, head: &ImageHead, cells: Vec<u8>) -> Result<MemDie, OutOfMemory>
+/// A die of an image's cells, or want of memory.
+pub fn die_of(alloc: Global, head: &ImageHead, cells: Vec<u8>) -> Result<MemDie, OutOfMemory>
     requires { AreCells head.now cells.items }
     ensures { IfOk result (λ die. IsMade (shape_of head.now) cells.items (mem_state die)) }
 {

@@ -10,7 +10,7 @@ ghost use Rattle.rssd_script.specs.declared.lines.Line.{Line as Spelled};
 ghost use Rattle.rssd_run.specs.Headline.{AllKeepHeadline, ChargeNeverFalls};
 ghost use Rattle.rssd_run.specs.Heads.{numbers_named, zero_sectors};
 ghost use Rattle.rssd_run.specs.QueueActs.{steps_of};
-ghost use Rattle.rssd_run.specs.QueueLaws.{ReadsTheOrder, ServesAll};
+ghost use Rattle.rssd_run.specs.QueueLaws.{ReadsTheOrder, ServesAll, ServesSoon, ServesSoonWhereServed};
 ghost use Rattle.rssd_run.specs.QueueRuns.{Queues, QueuesFront};
 ghost use Rattle.rssd_run.specs.ReadScript.{TakesScript};
 ghost use Rattle.rssd_run.specs.Run.{IsRun};
@@ -183,6 +183,18 @@ pub fn charge_never_falls_in_a_queue_run()
 pub fn queue_runs_serve_all_in_order()
     ensures { (head : Head) (lines : List Spelled) (log after : List Event) (given : Queues head lines log after)
         → ServesAll (row_of head.scheme).sector_bytes given.acts.acts }
+{}
+
+/// Each command that a queue run puts is among the next 1,024 that are served.
+pub fn queue_runs_serve_each_soon()
+    ensures { (head : Head) (lines : List Spelled) (log after : List Event) (given : Queues head lines log after)
+        → ServesSoon (row_of head.scheme).sector_bytes given.acts.acts }
+{}
+
+/// Where a queue run's sink failed, each command that it put is among the next 1,024 that were served, if so many were.
+pub fn cut_off_queue_runs_serve_each_soon()
+    ensures { (head : Head) (lines : List Spelled) (log after : List Event) (given : QueuesFront head lines log after)
+        → ServesSoonWhereServed (row_of head.scheme).sector_bytes given.acts.acts }
 {}
 
 /// Where no served command is refused, each read that is served tells the row that the array has where the commands are carried

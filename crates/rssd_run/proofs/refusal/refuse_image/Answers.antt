@@ -1,20 +1,17 @@
--- Each cause has its line.
+-- Each cause has its line; only want of memory has none.
+use Rattle.std.proofs.Common.{◌≡◌, List, ℕ, refl}
+use Rattle.die_image.specs.declared.error.ImageError.{ImageError}
+use Rattle.die_image.specs.declared.error.ImageError.TheVariants as images
+use Rattle.rssd_run.specs.declared.status.Status.{Status}
+use Rattle.rssd_run.specs.declared.status.Status.TheVariants.{BadImage}
+use Rattle.rssd_run.specs.Statuses.{Output, GaveLine, RefusesImageSo, bad_image}
 use Rattle.rssd_run.proofs.refusal.refuse_image.Goals as goal
 
-pub returns-in-Magic : goal.returns-in-Magic
-returns-in-Magic g c = rw c.in-Magic.is (c.refuse_with.ensures.status, c.refuse_with.ensures.line)
-
-pub returns-in-Version : goal.returns-in-Version
-returns-in-Version g c = rw c.in-Version.is (c.refuse_with-in-Version.ensures.status, c.refuse_with-in-Version.ensures.line)
-
-pub returns-in-Shape : goal.returns-in-Shape
-returns-in-Shape g c = rw c.in-Shape.is (c.refuse_with-in-Shape.ensures.status, c.refuse_with-in-Shape.ensures.line)
-
-pub returns-in-Short : goal.returns-in-Short
-returns-in-Short g c = rw c.in-Short.is (c.refuse_with-in-Short.ensures.status, c.refuse_with-in-Short.ensures.line)
-
-pub returns-in-Long : goal.returns-in-Long
-returns-in-Long g c = rw c.in-Long.is (c.refuse_with-in-Long.ensures.status, c.refuse_with-in-Long.ensures.line)
-
-pub returns-in-PadCells : goal.returns-in-PadCells
-returns-in-PadCells g c = rw c.in-PadCells.is (c.refuse_with-in-PadCells.ensures.status, c.refuse_with-in-PadCells.ensures.line)
+refused_so : (why : ImageError) (status : Status) (out : Output) → (why ≡ images.OutOfMemory → ⊥) → status ≡ BadImage → GaveLine out (bad_image why) → RefusesImageSo why status out
+refused_so images.OutOfMemory status out other is line = absurd (other refl)
+refused_so images.Magic status out other is line = (is, line)
+refused_so images.Version status out other is line = (is, line)
+refused_so images.Shape status out other is line = (is, line)
+refused_so images.Short status out other is line = (is, line)
+refused_so images.Long status out other is line = (is, line)
+refused_so images.PadCells status out other is line = (is, line)
