@@ -1,6 +1,6 @@
 //! The device over the die, by the scheme of the file's head.
 
-use crate::status::{Status, of_session};
+use crate::status::{Status, of_session, tell_tallies};
 use die_image::{ImageHead, SchemeName};
 use file_die::{FileDie, FileMirror};
 use rssd_core::device::{MountError, Plan};
@@ -48,6 +48,9 @@ fn serve_made<C: Scheme + Drop>(
     let mut from = StdSource::new(rt.stdin());
     let mut to = StdSink::new(rt.stdout());
     let ended = serve(rt.alloc(), &mut disk, &mut from, &mut to, &mut room);
+    if let Some(tallies) = disk.tallies() {
+        tell_tallies(rt, tallies);
+    }
     Ok(of_session(ended))
 }
 

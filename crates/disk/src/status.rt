@@ -1,9 +1,10 @@
 //! How the program ends. The numbers up to 7 are those of `rssd`.
 
 use die_image::ImageError;
-use rssd_disk::Ended;
+use rssd_disk::{Ended, Tallies};
 use rssd_io::{Sink, StdSink};
 use rssd_run::image_line;
+use rssd_script::{Reply, print_reply};
 
 /// How the program ends.
 #[derive(Clone, Copy, Debug, PartialEq, Eq)]
@@ -86,4 +87,17 @@ pub fn of_session(ended: Ended) -> Status {
 pub fn tell(rt: &HostRuntime, status: Status) {
     let mut errors = StdSink::new(rt.stderr());
     let _ = errors.give(status.line());
+}
+
+/// Tells standard error what a session came to, as a script's line `stat` is answered. A fault there changes nothing.
+pub fn tell_tallies(rt: &HostRuntime, tallies: Tallies) {
+    let reply = Reply::Stat {
+        first: tallies.counts.first,
+        second: tallies.counts.second,
+        declined: tallies.counts.declined,
+        moved: tallies.counts.moved,
+        erased: tallies.erased,
+    };
+    let mut errors = StdSink::new(rt.stderr());
+    let _ = errors.give(print_reply(&reply).as_slice());
 }

@@ -1,13 +1,15 @@
 -- What a disk over a device holds: a mounted device, or a die with its scheme.
 use Rattle.std.specs.Prelude.{◌≡◌, ℕ, List, Option, None, Some, IsSome, true, false}
+use Rattle.cell_die.specs.Counts.{sum_of}
 use Rattle.cell_die.specs.DieState.{DieState}
 use Rattle.nbd_wire.specs.declared.reply.Errno.{Errno}
 use Rattle.nbd_wire.specs.declared.reply.Errno.TheVariants.{InputOutput}
 use Rattle.nbd_wire.specs.declared.request.Request.{Request}
 use Rattle.striped.specs.Meaning.{Meaning}
 use Rattle.rssd_core.specs.declared.device.Plan.{Plan}
-use Rattle.rssd_core.specs.DeviceValue.{DeviceValue}
+use Rattle.rssd_core.specs.DeviceValue.{DeviceView, DeviceValue}
 use Rattle.rssd_core.specs.Mount.{Mounts, numbers_of}
+use Rattle.rssd_disk.specs.declared.device_disk.Tallies.{Tallies}
 use Rattle.rssd_disk.specs.Answers.{Answers}
 use Rattle.rssd_disk.specs.Disk.{IsDisk}
 
@@ -54,3 +56,18 @@ pub record AskedOf (Comes : DeviceValue → Type 0) (r : Request) (before after 
 abbrev pub AnswersHeld : {D C F : Type 0} → (D → DieState) → (C → Meaning) → (F → DeviceValue) → Plan → Option F → Option (D × C) → Option F → Request → List ℕ → List ℕ → Errno → Type 0
 AnswersHeld state meaning device plan mounted closed None r before after reply = (reply ≡ InputOutput) × (after ≡ before)
 AnswersHeld state meaning device plan mounted closed (Some ftl) r before after reply = AskedOf (ComesFrom state meaning device plan mounted closed) r before after reply (device ftl)
+
+-- ---- tallies
+
+pub record TalliesOf (view : DeviceView) (tallies : Tallies) : Type 0 where
+  pub first : tallies.counts.first ≡ view.first
+  pub second : tallies.counts.second ≡ view.second
+  pub declined : tallies.counts.declined ≡ view.declined
+  pub moved : tallies.counts.moved ≡ view.moved
+  pub erased : tallies.erased ≡ sum_of view.die.erases
+
+-- those of the device, where one is mounted
+abbrev pub IsTallied : {F : Type 0} → (F → DeviceValue) → Option F → Option Tallies → Type 0
+IsTallied device None tallies = tallies ≡ None
+IsTallied device (Some ftl) (Some tallies) = TalliesOf (device ftl).view tallies
+IsTallied device (Some ftl) None = ⊥

@@ -2,13 +2,13 @@
 ghost use Rattle.std.specs.Prelude.{◌≡◌, ◌↔◌, ℕ, List, IfOk, IfSome, IsTrue, length};
 ghost use Rattle.nbd_wire.specs.declared.request.Request.{Request as Asked};
 ghost use Rattle.nbd_wire.specs.declared.reply.Errno.{Errno as Reply};
-ghost use Rattle.rssd_disk.specs.Held.{IsHeld, IsReady, Runs, Gives, ComesFrom};
+ghost use Rattle.rssd_disk.specs.Held.{IsHeld, IsReady, Runs, Gives, ComesFrom, IsTallied};
 ghost use Rattle.rssd_disk.specs.Rules.{data_length};
 
 use crate::request::{answer_request, size_of};
 use cell_die::PowerDie;
 use nbd_wire::{Errno, Request};
-use rssd_core::device::{Device, Plan, Refused};
+use rssd_core::device::{Counts, Device, Plan, Refused};
 use std::alloc::Global;
 use striped::Scheme;
 
@@ -32,6 +32,13 @@ pub trait Disk {
 
     /// Whether the machine still has power: without it, nothing is answered.
     fn has_power(&self) -> bool;
+}
+
+/// How writes were answered since the last mount, and the sum of the die's erase counts.
+#[derive(Clone, Copy, Debug, PartialEq, Eq)]
+pub struct Tallies {
+    pub counts: Counts,
+    pub erased: u64,
 }
 
 /// A device, or after a mount that was refused the die alone with its scheme.
@@ -59,6 +66,19 @@ impl<D: PowerDie + Drop, C: Scheme + Drop, F: Device<D, C>> DeviceDisk<D, C, F> 
                 })
             }
             Err(refused) => Err(refused),
+        }
+    }
+
+    /// The tallies of the device; None after a mount that was refused.
+    pub fn tallies(&self) -> Option<Tallies>
+        ensures { IsTallied F.device self.now.mounted result }
+    {
+        match &self.mounted {
+            Some(ftl) => Some(Tallies {
+                counts: ftl.counts(),
+                erased: ftl.die().erased(),
+            }),
+            None => None,
         }
     }
 

@@ -13,7 +13,7 @@ mod rules;
 mod sectors;
 mod serving;
 
-pub use device_disk::{DeviceDisk, Disk};
+pub use device_disk::{DeviceDisk, Disk, Tallies};
 pub use request::answer_request;
 pub use rules::{LONGEST, data_length, refusal};
 pub use serving::{Ended, ROOM, serve};
