@@ -3,3 +3,5 @@ pub mod Handed
 pub mod BlankMounts
 pub mod Told
 pub mod Stopped
+pub mod Listed
+pub mod Ends
