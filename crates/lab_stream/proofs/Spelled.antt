@@ -2,7 +2,7 @@
 use Rattle.std.proofs.Common.{◌≡◌, ◌⊎◌, inl, inr, ℕ, ◌+◌, ◌-◌, ◌^◌, ◌<◌, ◌≤◌, List, [], ◌∷◌, ◌++◌, length, refl, ap, sym, ◌∙◌, subst, arith, append_assoc, append-nil, length-append}
 use Rattle.std.specs.Prelude.{min}
 use Rattle.std.specs.List.{AllZip}
-use Rattle.rssd_io.specs.Event.{Event, moved, bytes_of, failures, since}
+use Rattle.rssd_io.specs.Event.{Event, HasEnded, moved, bytes_of, failures}
 use Rattle.rssd_io.specs.Faults.{raised}
 use Rattle.rssd_io.proofs.Logs.{came_behind, failures_append, bytes_append, since_is}
 use Rattle.rssd_script.specs.declared.lines.Line.{Line}
@@ -15,7 +15,7 @@ use Rattle.lab_lines.specs.Given.{AllGiven}
 use Rattle.lab_stream.specs.declared.stream.Stream.{Stream}
 use Rattle.lab_stream.specs.Texts.{IsEnded, IsText, ReadsNone}
 use Rattle.lab_stream.specs.Streaming.{ahead_of, lines_of, TakesText, TakesLine, EndsInput, HasText}
-use Rattle.lab_stream.specs.Spelled.{EndsOnce, Streamed, StreamedBad}
+use Rattle.lab_stream.specs.Spelled.{EndsOnce, AreLines, Streamed, StreamedBad}
 
 -- ---- an end of the input among events
 
@@ -107,6 +107,17 @@ bad_behind front lines text ahead (inl ended) none whole ends =
     subst (λ (bytes : List ℕ). FirstBadLine bytes (length lines + 1)) all (broken_line front lines [] whole ended.front [] ended.no_feed spells_none ahead)
 bad_behind front lines text ahead (inr begun) none whole ends = begun_bad front lines text ahead begun.0 begun.1 none whole ends
 
+-- what holds of all events holds of those before some
+earlier_once : (events more : List Event) → EndsOnce (events ++ more) → EndsOnce events
+earlier_once events more once front back is =
+    let far : events ++ more ≡ front ++ moved [] ∷ (back ++ more) = ap (λ (first : List Event). first ++ more) is ∙ append_assoc front (moved [] ∷ back) more in
+    none_left (bytes_of back) (bytes_of more) (sym (once front (back ++ more) far) ∙ bytes_append back more)
+
+-- lines that are all whole, or the last of which stands at the end
+are_lines : (after : List Event) (front : List ℕ) (lines : List Line) (ahead : List ℕ) → IsScript front lines → Whole front lines [] ⊎ ((ahead ≡ []) × HasEnded after) → AreLines after front lines ahead
+are_lines after front lines ahead script (inl closed) = record { script = script; whole = inl (closed.is ∙ append-nil (script_text lines)) }
+are_lines after front lines ahead script (inr over) = record { script = script; whole = inr over }
+
 -- events one after another, in the other grouping
 onward : (first rest more : List Event) → EndsOnce ((first ++ rest) ++ more) → EndsOnce (first ++ (rest ++ more))
 onward first rest more once = subst EndsOnce (append_assoc first rest more) once
@@ -121,7 +132,8 @@ record SpelledBetween {S : Type 0} (log : S → List Event) (old : Stream S) (li
   pub front : List ℕ
   pub bytes : ahead_of old ++ bytes_of events ≡ front ++ ahead_of new
   pub spelled : EndsOnce events → IsScript front lines
-  pub closed : (later : List Event) → EndsOnce (events ++ later) → 0 < length (ahead_of new ++ bytes_of later) → Whole front lines []
+  pub closed : (later : List Event) → EndsOnce (events ++ later) → Whole front lines [] ⊎ ((ahead_of new ≡ []) × (bytes_of later ≡ []) × HasEnded (log new.source))
+  pub stays : lines ≡ [] → new ≡ old
 
 module _ {S : Type 0} (log : S → List Event) where
   no_line : (old new : Stream S) → new ≡ old → SpelledBetween log old [] new
@@ -133,7 +145,8 @@ module _ {S : Type 0} (log : S → List Event) where
     front = [];
     bytes = append-nil (ahead_of old) ∙ ap ahead_of (sym same);
     spelled = λ once. tt;
-    closed = λ more once some. whole_none;
+    closed = λ more once. inl whole_none;
+    stays = λ none. same;
   }
 
   one_more : (old between new : Stream S) (line : Line) (lines : List Line) → TakesLine log old line between → SpelledBetween log between lines new → SpelledBetween log old (line ∷ lines) new
@@ -153,20 +166,30 @@ module _ {S : Type 0} (log : S → List Event) where
             ∙ ap (λ (bytes : List ℕ). text ++ bytes) rest.bytes
             ∙ sym (append_assoc text rest.front (ahead_of new));
         spelled = λ once. script once takes.whole;
-        closed = λ more once some. whole more once some takes.whole;
+        closed = λ more once. whole more once takes.whole;
+        stays = λ none. absurd cc;
       }
     where
-      whole : (more : List Event) → EndsOnce ((takes.takes.events ++ rest.events) ++ more) → 0 < length (ahead_of new ++ bytes_of more) → HasText log old takes.text between → Whole (takes.text ++ rest.front) (line ∷ lines) []
-      whole more once some (inl ended) =
-          whole_first takes.text rest.front line lines ended takes.reads.1 (rest.closed more (later takes.takes.events (rest.events ++ more) (onward takes.takes.events rest.events more once)) some)
-      whole more once some (inr ends) =
+      whole : (more : List Event) → EndsOnce ((takes.takes.events ++ rest.events) ++ more) → HasText log old takes.text between
+          → Whole (takes.text ++ rest.front) (line ∷ lines) [] ⊎ ((ahead_of new ≡ []) × (bytes_of more ≡ []) × HasEnded (log new.source))
+      whole more once (inl ended) = elim (rest.closed more (later takes.takes.events (rest.events ++ more) (onward takes.takes.events rest.events more once))) [
+        | inl closed ↦ inl (whole_first takes.text rest.front line lines ended takes.reads.1 closed)
+        | inr over ↦ inr over
+      ]
+      whole more once (inr ends) =
           let first : List Event = takes.takes.events in
           let is : first ≡ ends.front ++ moved [] ∷ [] =
           sym (since_is (log old.source) (log between.source) first takes.takes.came) ∙ since_is (log old.source) (log between.source) (ends.front ++ moved [] ∷ []) ends.came in
-          let none : bytes_of rest.events ++ bytes_of more ≡ [] =
-          sym (bytes_append rest.events more) ∙ behind_end first (rest.events ++ more) ends.front is (onward first rest.events more once) in
-          let left : [] ≡ rest.front ++ ahead_of new = sym (λ i. ends.none i ++ none_left (bytes_of rest.events) (bytes_of more) (sym none) i) ∙ rest.bytes in
-          absurd (omega (arith, some, length-append (ahead_of new) (bytes_of more), ap length none, length-append (bytes_of rest.events) (bytes_of more), ap length left, length-append rest.front (ahead_of new)))
+          let all_once : EndsOnce (first ++ (rest.events ++ more)) = onward first rest.events more once in
+          let none : bytes_of rest.events ++ bytes_of more ≡ [] = sym (bytes_append rest.events more) ∙ behind_end first (rest.events ++ more) ends.front is all_once in
+          let none_rest : bytes_of rest.events ≡ [] = none_left (bytes_of rest.events) (bytes_of more) (sym none) in
+          let left : [] ≡ rest.front ++ ahead_of new = sym (λ i. ends.none i ++ none_rest i) ∙ rest.bytes in
+          let no_front : rest.front ≡ [] = none_left rest.front (ahead_of new) left in
+          let no_ahead : ahead_of new ≡ [] = sym (left ∙ ap (λ (bytes : List ℕ). bytes ++ ahead_of new) no_front) in
+          let no_bytes : bytes_of more ≡ [] = ap (λ (bytes : List ℕ). bytes ++ bytes_of more) (sym none_rest) ∙ none in
+          let once_rest : EndsOnce rest.events = earlier_once rest.events more (later first (rest.events ++ more) all_once) in
+          let no_more : lines ≡ [] = no_lines lines (subst (λ (bytes : List ℕ). IsScript bytes lines) no_front (rest.spelled once_rest)) in
+          inr (no_ahead, no_bytes, subst (λ (stream : Stream S). HasEnded (log stream.source)) (sym (rest.stays no_more)) ends.ended)
 
       script : EndsOnce (takes.takes.events ++ rest.events) → HasText log old takes.text between → IsScript (takes.text ++ rest.front) (line ∷ lines)
       script once (inl ended) = ended_first takes.text rest.front line lines ended takes.reads.1 (rest.spelled (later takes.takes.events rest.events once))
@@ -202,16 +225,20 @@ module _ {S : Type 0} (log : S → List Event) where
         ∙ ap (λ (bytes : List ℕ). so.front ++ bytes) takes.order
 
     earlier : EndsOnce (so.events ++ takes.events) → EndsOnce so.events
-    earlier once front back is =
-        let far : so.events ++ takes.events ≡ front ++ moved [] ∷ (back ++ takes.events) = ap (λ (events : List Event). events ++ takes.events) is ∙ append_assoc front (moved [] ∷ back) takes.events in
-        none_left (bytes_of back) (bytes_of takes.events) (sym (once front (back ++ takes.events) far) ∙ bytes_append back takes.events)
-
-    pub streamed_text : Streamed (log old.source) (log new.source) lines (text ++ ahead_of new)
-    streamed_text = record { events = so.events ++ takes.events; came = all_came; served = all_served; front = so.front; bytes = all_bytes; spelled = λ once. so.spelled (earlier once) }
+    earlier once = earlier_once so.events takes.events once
 
     closed_front : EndsOnce (so.events ++ takes.events) → 0 < length text → Whole so.front lines []
-    closed_front once some =
-        so.closed takes.events once (omega (arith, ap length takes.order, length-append text (ahead_of new), length-append (ahead_of last) (bytes_of takes.events)))
+    closed_front once some = elim (so.closed takes.events once) [
+      | inl closed ↦ closed
+      | inr over ↦ absurd (omega (arith, some, ap length takes.order, length-append text (ahead_of new), length-append (ahead_of last) (bytes_of takes.events), ap length over.0, ap length over.1))
+    ]
+
+    front_lines : EndsOnce (so.events ++ takes.events) → (0 < length text) ⊎ ((text ++ ahead_of new ≡ []) × HasEnded (log new.source)) → AreLines (log new.source) so.front lines (text ++ ahead_of new)
+    front_lines once (inl some) = are_lines (log new.source) so.front lines (text ++ ahead_of new) (so.spelled (earlier once)) (inl (closed_front once some))
+    front_lines once (inr over) = are_lines (log new.source) so.front lines (text ++ ahead_of new) (so.spelled (earlier once)) (inr over)
+
+    pub streamed_text : (0 < length text) ⊎ ((text ++ ahead_of new ≡ []) × HasEnded (log new.source)) → Streamed (log old.source) (log new.source) lines (text ++ ahead_of new)
+    streamed_text end = record { events = so.events ++ takes.events; came = all_came; served = all_served; front = so.front; bytes = all_bytes; spelled = λ once. front_lines once end }
 
     module _ (is_text : IsText text) (is_none : ReadsNone text) (number : ℕ) (number_is : number ≡ raised (length lines)) where
       first_bad : EndsOnce (so.events ++ takes.events) → HasText log last text new ⊎ (1049 < length text) → FirstBadLine (so.front ++ (text ++ ahead_of new)) (length lines + 1)
@@ -230,7 +257,9 @@ module _ {S : Type 0} (log : S → List Event) where
         front = so.front;
         rest = text ++ ahead_of new;
         bytes = all_bytes;
-        spelled = λ once. so.spelled (earlier once);
+        spelled = λ once.
+            let closed = closed_front once (some_text text is_text) in
+            (so.spelled (earlier once), closed.is ∙ append-nil (script_text lines));
         bad = λ once. subst (λ (bytes : List ℕ). FirstBadLine bytes (length lines + 1)) (sym all_bytes) (first_bad once whole);
         number_is = number_is;
       }
@@ -245,7 +274,10 @@ module _ {S : Type 0} (log : S → List Event) where
         served = so.served;
         front = so.front;
         bytes = ap (λ (ahead : List ℕ). ahead ++ bytes_of so.events) (sym none) ∙ so.bytes;
-        spelled = so.spelled;
+        spelled = λ once. elim (so.closed [] (subst EndsOnce (sym (append-nil so.events)) once)) [
+          | inl closed ↦ are_lines (log new.source) so.front lines (ahead_of new) (so.spelled once) (inl closed)
+          | inr over ↦ are_lines (log new.source) so.front lines (ahead_of new) (so.spelled once) (inr (over.0, over.2))
+        ];
       }
 
   -- so many lines were counted

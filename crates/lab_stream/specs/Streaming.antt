@@ -109,6 +109,7 @@ pub record TakesBad {S : Type 0} (log : S → List Event) (old : Stream S) (numb
 pub record TakesSome {S : Type 0} (log : S → List Event) (old new : Stream S) : Type 0 where
   pub text : List ℕ
   pub takes : TakesText log old text new
+  pub some : 0 < length text
 
 -- why no line came
 abbrev pub StopsStream : {S : Type 0} → (S → List Event) → Stream S → LinesEnd → Stream S → Type 0

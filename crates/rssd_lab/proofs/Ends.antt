@@ -2,7 +2,7 @@
 use Rattle.std.proofs.Common.{◌≡◌, ◌⊎◌, inl, inr, ℕ, zero, suc, ◌+◌, ◌-◌, ◌^◌, ◌≤◌, ◌<◌, Bool, true, false, List, [], ◌∷◌, ◌++◌, length, refl, ap, sym, ◌∙◌, subst, arith, append-nil}
 use Rattle.std.specs.Prelude.{if◌then◌else◌, ◌&&◌, ◌==◌, nat_lt}
 use Rattle.die_image.specs.declared.head.ImageHead.{ImageHead}
-use Rattle.rssd_io.specs.Event.{Event}
+use Rattle.rssd_io.specs.Event.{Event, HasFailed}
 use Rattle.rssd_script.specs.declared.lines.Line.{Line}
 use Rattle.rssd_script.specs.declared.lines.Line.TheVariants.{Write, Read, Trim, Idle}
 use Rattle.rssd_run.specs.Played.{IsPlayed}
@@ -28,8 +28,9 @@ use Rattle.rssd_lab.specs.Pacing.{inner_of}
 use Rattle.rssd_lab.specs.Blank.{StopsBlank}
 use Rattle.rssd_lab.specs.Top.{GivesLine, SaysStopped, bad_line}
 use Rattle.rssd_lab.specs.Listed.{RunEnds, PlaysList, StopsList}
-use Rattle.rssd_lab.specs.Ends.{SaysPlay, SaysDraw, PlaysInput, IsOutside, IsUnplayed, IsCutOff, IsShortOfMemory, IsShortOfDrawn}
-use Rattle.rssd_lab.proofs.Listed.{AllListed, ListedUpTo, ListedUnplayed, all_listed, listed_up_to, listed_unplayed}
+use Rattle.rssd_lab.specs.Ends.{SaysPlay, SaysDraw, PlaysInput, IsOutside, IsUnplayed, IsCutOff, IsShortOfMemory, IsShortOfDrawn, IsUntold, IsUntoldDrawn}
+use Rattle.rssd_lab.proofs.Stopped.{sink_failed}
+use Rattle.rssd_lab.proofs.Listed.{AllListed, ListedUpTo, ListedUnplayed, ListedUntold, all_listed, listed_up_to, listed_unplayed, listed_untold}
 
 -- lines that came through a supply that passes them on
 through : {L M : Type 0} (f : L → M) (gives : M → Line → M → Type 0) (old new : L) (lines : List Line) → AllGiven (λ a line b. gives (f a) line (f b)) old lines new → AllGiven gives (f old) lines (f new)
@@ -63,7 +64,7 @@ module _ {S P : Type 0} (log : S → List Event) (telling : Telling) (head : Ima
         lines = all.listed;
         came = record {
           ahead = ahead_of (inner_of new);
-          streamed = streamed_text log (inner_of old) (inner_of all.last) (inner_of new) all.listed none_ahead (came all.last all.listed all.given) [] none.takes;
+          streamed = streamed_text log (inner_of old) (inner_of all.last) (inner_of new) all.listed none_ahead (came all.last all.listed all.given) [] none.takes (inr (none.none, none.ended));
           all = inl (none.none, none.ended);
         };
         plays = all.plays;
@@ -98,7 +99,7 @@ module _ {S P : Type 0} (log : S → List Event) (telling : Telling) (head : Ima
     lines = upto.listed;
     came = (
       upto.after.text ++ ahead_of (inner_of new),
-      streamed_text log (inner_of old) (inner_of upto.last) (inner_of new) upto.listed none_ahead (came upto.last upto.listed upto.given) upto.after.text upto.after.takes,
+      streamed_text log (inner_of old) (inner_of upto.last) (inner_of new) upto.listed none_ahead (came upto.last upto.listed upto.given) upto.after.text upto.after.takes (inl upto.after.some),
     );
     plays = upto.plays;
   }
@@ -133,7 +134,18 @@ module _ {S P : Type 0} (log : S → List Event) (telling : Telling) (head : Ima
     line = line;
   }
 
-  stopped : (why : Stop) (between out_after : List Event) (status : Status) → StopsBlank (Gives log) (Stops log) telling head why old new out between → SaysStopped why status between out_after
+  untold : (between : List Event) → ListedUntold (Gives log) (Ended log) telling head old new out between → HasFailed out between
+      → IsUntold telling head (input (log (inner_of old).source) (log (inner_of new).source)) (output out between)
+  untold between cut failed = record { lines = cut.listed; came = (ahead_of (inner_of new), streams cut.ends); plays = cut.plays; failed = failed }
+    where
+      streams : (new ≡ cut.last) ⊎ Ended log cut.last new → Streamed (log (inner_of old).source) (log (inner_of new).source) cut.listed (ahead_of (inner_of new))
+      streams (inl same) =
+          subst (λ (last : Paced (Stream S) P). Streamed (log (inner_of old).source) (log (inner_of last).source) cut.listed (ahead_of (inner_of last))) (sym same)
+          (streamed log (inner_of old) (inner_of cut.last) cut.listed none_ahead (came cut.last cut.listed cut.given))
+      streams (inr none) =
+          streamed_text log (inner_of old) (inner_of cut.last) (inner_of new) cut.listed none_ahead (came cut.last cut.listed cut.given) [] none.takes (inr (none.none, none.ended))
+
+  stopped : (why : Stop) (between out_after : List Event) (status : Status) → StopsBlank (Gives log) (Ended log) (Stops log) telling head why old new out between → SaysStopped why status between out_after
       → SaysPlay telling head (input (log (inner_of old).source) (log (inner_of new).source)) (output out out_after) status
   stopped (stops.Lines (ends.OutOfMemory)) between out_after status run says =
       let listed = listed_up_to (Gives log) (Ended log) (Stops log) telling head old new out between ends.OutOfMemory run in
@@ -150,8 +162,9 @@ module _ {S P : Type 0} (log : S → List Event) (telling : Telling) (head : Ima
       subst (SaysPlay telling head (input (log (inner_of old).source) (log (inner_of new).source)) (output out out_after)) (sym says.0)
       (inr (unplayed number between out_after (listed_unplayed (Gives log) (Ended log) (Stops log) telling head old new out between number run) says.1))
   stopped (stops.Sink) between out_after status run says =
+      let cut = untold between (listed_untold (Gives log) (Ended log) (Stops log) telling head old new out between run) (sink_failed (Gives log) (Ended log) (Stops log) telling run.0 old new out between run.2) in
       subst (SaysPlay telling head (input (log (inner_of old).source) (log (inner_of new).source)) (output out out_after)) (sym says.0)
-      (subst (λ (after : List Event). WriteFailed (output out after)) (sym says.1) run.2)
+      (subst (λ (after : List Event). IsUntold telling head (input (log (inner_of old).source) (log (inner_of new).source)) (output out after)) (sym says.1) cut)
   stopped (stops.OutOfMemory) between out_after status run says =
       subst (SaysPlay telling head (input (log (inner_of old).source) (log (inner_of new).source)) (output out out_after)) (sym says.0)
       (inl (ap (λ (lines : Paced (Stream S) P). log (inner_of lines).source) run.0, says.1 ∙ run.1))
@@ -220,7 +233,18 @@ module _ {P : Type 0} (telling : Telling) (head : ImageHead) (old new : Paced Dr
         plays = subst (λ (list : List Line). StopsList telling head (stops.Lines ends.OutOfMemory) list out out_after) is.0 upto.plays;
       }
 
-  stopped_drawn : (why : Stop) (between out_after : List Event) (status : Status) → StopsBlank Draws DrawsStop telling head why old new out between → SaysStopped why status between out_after
+  untold_drawn : (between : List Event) → ListedUntold Draws DrawsNoMore telling head old new out between → HasFailed out between
+      → IsUntoldDrawn telling head (plan_of (inner_of old)) seed (left_of (inner_of old)) (output out between)
+  untold_drawn between cut failed =
+      let is = first cut.last cut.listed cut.given in
+      record {
+        k = length cut.listed;
+        before = omega (arith, is.1);
+        plays = subst (λ (list : List Line). StopsList telling head stops.Sink list out between) is.0 cut.plays;
+        failed = failed;
+      }
+
+  stopped_drawn : (why : Stop) (between out_after : List Event) (status : Status) → StopsBlank Draws DrawsNoMore DrawsStop telling head why old new out between → SaysStopped why status between out_after
       → SaysDraw telling head (plan_of (inner_of old)) seed (left_of (inner_of old)) (output out out_after) status
   stopped_drawn (stops.Lines (ends.OutOfMemory)) between out_after status run says =
       let listed = listed_up_to Draws DrawsNoMore DrawsStop telling head old new out between ends.OutOfMemory run in
@@ -239,8 +263,9 @@ module _ {P : Type 0} (telling : Telling) (head : ImageHead) (old new : Paced Dr
       let is = first new (listed.listed ++ listed.other ∷ []) listed.given in
       absurd (listed.unplayed (last_played (plan_of (inner_of old)) _ (length (listed.listed ++ listed.other ∷ [])) listed.listed listed.other is.0))
   stopped_drawn (stops.Sink) between out_after status run says =
+      let cut = untold_drawn between (listed_untold Draws DrawsNoMore DrawsStop telling head old new out between run) (sink_failed Draws DrawsNoMore DrawsStop telling run.0 old new out between run.2) in
       subst (SaysDraw telling head (plan_of (inner_of old)) seed (left_of (inner_of old)) (output out out_after)) (sym says.0)
-      (subst (λ (after : List Event). WriteFailed (output out after)) (sym says.1) run.2)
+      (subst (λ (after : List Event). IsUntoldDrawn telling head (plan_of (inner_of old)) seed (left_of (inner_of old)) (output out after)) (sym says.1) cut)
   stopped_drawn (stops.OutOfMemory) between out_after status run says =
       subst (SaysDraw telling head (plan_of (inner_of old)) seed (left_of (inner_of old)) (output out out_after)) (sym says.0) (inl (says.1 ∙ run.1))
 

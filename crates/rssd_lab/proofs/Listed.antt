@@ -15,10 +15,10 @@ use Rattle.lab_lines.specs.Given.{AllGiven}
 use Rattle.lab_tables.specs.declared.answers.Answers.{Answers}
 use Rattle.lab_tables.specs.Answered.{answered_more}
 use Rattle.rssd_lab.specs.declared.telling.Telling.{Telling}
-use Rattle.rssd_lab.specs.declared.status.Stop.TheVariants.{Lines, NotPlayed}
+use Rattle.rssd_lab.specs.declared.status.Stop.TheVariants.{Lines, NotPlayed, Sink}
 use Rattle.rssd_lab.specs.Chain.{Chain}
-use Rattle.rssd_lab.specs.Runs.{Answered, At, PlaysLines, state_at}
-use Rattle.rssd_lab.specs.Blank.{RunsBlank, StopsBlank}
+use Rattle.rssd_lab.specs.Runs.{Answered, At, PlaysLines, StopsAtSink, state_at}
+use Rattle.rssd_lab.specs.Blank.{IsBlankDevice, RunsBlank, StopsBlank}
 use Rattle.rssd_lab.specs.Listed.{NextOf, PlaysList, StopsList}
 
 -- the lines that were answered, and more behind them
@@ -101,6 +101,14 @@ pub record ListedUnplayed {L : Type 0} (gives : L → Line → L → Type 0) (te
   pub number_is : number ≡ raised (length listed)
   pub plays : StopsList telling head (NotPlayed number) (listed ++ other ∷ []) log log_after
 
+-- the same up to where a call of the sink failed
+pub record ListedUntold {L : Type 0} (gives : L → Line → L → Type 0) (ended : L → L → Type 0) (telling : Telling) (head : ImageHead) (lines lines_after : L) (log log_after : List Event) : Type 0 where
+  pub listed : List Line
+  pub last : L
+  pub given : AllGiven gives lines listed last
+  pub ends : (lines_after ≡ last) ⊎ ended last lines_after
+  pub plays : StopsList telling head Sink listed log log_after
+
 module _ {L : Type 0} (gives : L → Line → L → Type 0) (ended : L → L → Type 0) (stops : L → LinesEnd → L → Type 0) (telling : Telling) (head : ImageHead) (lines lines_after : L) (log log_after : List Event) where
   pub all_listed : RunsBlank gives ended telling head lines lines_after log log_after → AllListed gives ended telling head lines lines_after log log_after
   all_listed run =
@@ -131,7 +139,7 @@ module _ {L : Type 0} (gives : L → Line → L → Type 0) (ended : L → L →
         );
       }
 
-  pub listed_up_to : (why : LinesEnd) → StopsBlank gives stops telling head (Lines why) lines lines_after log log_after → ListedUpTo gives stops telling head why lines lines_after log log_after
+  pub listed_up_to : (why : LinesEnd) → StopsBlank gives ended stops telling head (Lines why) lines lines_after log log_after → ListedUpTo gives stops telling head why lines lines_after log log_after
   listed_up_to why run =
       let device : DeviceValue = run.0 in
       let runs = run.2 in
@@ -157,7 +165,7 @@ module _ {L : Type 0} (gives : L → Line → L → Type 0) (ended : L → L →
         );
       }
 
-  pub listed_unplayed : (number : ℕ) → StopsBlank gives stops telling head (NotPlayed number) lines lines_after log log_after → ListedUnplayed gives telling head number lines lines_after log log_after
+  pub listed_unplayed : (number : ℕ) → StopsBlank gives ended stops telling head (NotPlayed number) lines lines_after log log_after → ListedUnplayed gives telling head number lines lines_after log log_after
   listed_unplayed number run =
       let device : DeviceValue = run.0 in
       let runs = run.2 in
@@ -196,3 +204,71 @@ module _ {L : Type 0} (gives : L → Line → L → Type 0) (ended : L → L →
           },
         );
       }
+
+  untold : (device : DeviceValue) → IsBlankDevice head device → StopsAtSink gives ended stops telling device lines lines_after log log_after → ListedUntold gives ended telling head lines lines_after log log_after
+  untold device blank (inl first) = record {
+    listed = [];
+    last = lines;
+    given = none_more gives device.numbers telling lines;
+    ends = inl first.0;
+    plays = (device, blank, inl (refl, first.1));
+  }
+  untold device blank (inr (inl line)) =
+      let told = line.plays in
+      let start : At L = state_at lines device line.score _ in
+      record {
+        listed = lines_and told.answered (told.line ∷ []);
+        last = lines_after;
+        given = subst (λ (l : L). AllGiven gives lines (lines_and told.answered (told.line ∷ [])) l) line.lines_last
+            (came gives device.numbers telling start told.last told.answered (told.line ∷ []) line.last.lines told.plays (one_more gives device.numbers telling told.last.lines line.last.lines told.line told.given));
+        ends = inl refl;
+        plays = (
+          device,
+          blank,
+          inr (inl (record {
+            score = line.score;
+            first = line.first;
+            last = state_at [] line.last.device line.last.score line.last.log;
+            plays = record {
+              answered = told.answered;
+              last = state_at (told.line ∷ []) told.last.device told.last.score told.last.log;
+              plays = listed gives device.numbers telling start told.last told.answered (told.line ∷ []) told.plays;
+              line = told.line;
+              reply = told.reply;
+              given = refl;
+              played = told.played;
+              failed = told.failed;
+            };
+            lines_last = refl;
+            log_last = line.log_last;
+          })),
+        );
+      }
+  untold device blank (inr (inr end)) =
+      let plays = end.plays in
+      let last : At L = record end.last { lines = plays.last } in
+      let start : At L = state_at lines device end.score _ in
+      record {
+        listed = lines_and plays.answered [];
+        last = plays.last;
+        given = came gives device.numbers telling start last plays.answered [] plays.last plays.plays (none_more gives device.numbers telling plays.last);
+        ends = elim plays.ends [
+          | inl none ↦ inr (subst (λ (l : L). ended plays.last l) end.lines_last none)
+          | inr many ↦ inl (sym end.lines_last ∙ many.1)
+        ];
+        plays = (
+          device,
+          blank,
+          inr (inr (record {
+            score = end.score;
+            first = end.first;
+            last = state_at [] end.last.device end.last.score end.last.log;
+            plays = record { answered = plays.answered; last = []; plays = listed gives device.numbers telling start last plays.answered [] plays.plays; ends = inl (refl, refl) };
+            lines_last = refl;
+            failed = end.failed;
+          })),
+        );
+      }
+
+  pub listed_untold : StopsBlank gives ended stops telling head Sink lines lines_after log log_after → ListedUntold gives ended telling head lines lines_after log log_after
+  listed_untold run = untold run.0 run.1 run.2

@@ -86,12 +86,19 @@ pub record IsShortOfMemory (telling : Telling) (head : ImageHead) (input : Input
   pub came : Came input lines
   pub plays : StopsList telling head (stops.Lines ends.OutOfMemory) lines out.before out.after
 
+-- a call of `out` failed; the lines that came before were played, and told but for what failed
+pub record IsUntold (telling : Telling) (head : ImageHead) (input : Input) (out : Output) : Type 0 where
+  pub lines : List Line
+  pub came : Came input lines
+  pub plays : StopsList telling head stops.Sink lines out.before out.after
+  pub failed : WriteFailed out
+
 -- what each status says of the lines of the input
 abbrev pub SaysPlay : Telling → ImageHead → Input → Output → Status → Type 0
 SaysPlay telling head input out Done = PlaysInput telling head input out
 SaysPlay telling head input out BadLine = IsOutside telling head input out ⊎ IsUnplayed telling head input out
 SaysPlay telling head input out ReadFault = IsCutOff telling head input out
-SaysPlay telling head input out WriteFault = WriteFailed out
+SaysPlay telling head input out WriteFault = IsUntold telling head input out
 SaysPlay telling head input out OutOfMemory = (IsUntouched input × TookNothing out) ⊎ IsShortOfMemory telling head input out
 SaysPlay telling head input out BadWords = ⊥
 
@@ -107,10 +114,17 @@ pub record IsShortOfDrawn (telling : Telling) (head : ImageHead) (plan : DrawPla
   pub before : k ≤ count
   pub plays : StopsList telling head (stops.Lines ends.OutOfMemory) (drawn_lines plan k seed) out.before out.after
 
+-- a call of `out` failed; the first lines of the workload were played, and told but for what failed
+pub record IsUntoldDrawn (telling : Telling) (head : ImageHead) (plan : DrawPlan) (seed count : ℕ) (out : Output) : Type 0 where
+  pub k : ℕ
+  pub before : k ≤ count
+  pub plays : StopsList telling head stops.Sink (drawn_lines plan k seed) out.before out.after
+  pub failed : WriteFailed out
+
 -- what each status says of so many lines of the workload of a seed; each of them is played
 abbrev pub SaysDraw : Telling → ImageHead → DrawPlan → ℕ → ℕ → Output → Status → Type 0
 SaysDraw telling head plan seed count out Done = PlaysList telling head (drawn_lines plan count seed) out.before out.after
-SaysDraw telling head plan seed count out WriteFault = WriteFailed out
+SaysDraw telling head plan seed count out WriteFault = IsUntoldDrawn telling head plan seed count out
 SaysDraw telling head plan seed count out OutOfMemory = TookNothing out ⊎ IsShortOfDrawn telling head plan seed count out
 SaysDraw telling head plan seed count out status = ⊥
 

@@ -15,7 +15,7 @@ use Rattle.rssd_lab.specs.Top.{SaysStopped}
 abbrev pub RunEnds : {L : Type 0} → (L → Line → L → Type 0) → (L → L → Type 0) → (L → LinesEnd → L → Type 0) → Telling → ImageHead → L → L → List Event → List Event → Status → Type 0
 RunEnds gives ended stops telling head lines lines_after log log_after status =
     ((status ≡ Done) × RunsBlank gives ended telling head lines lines_after log log_after)
-    ⊎ ((why : Stop) × (between : List Event) × StopsBlank gives stops telling head why lines lines_after log between × SaysStopped why status between log_after)
+    ⊎ ((why : Stop) × (between : List Event) × StopsBlank gives ended stops telling head why lines lines_after log between × SaysStopped why status between log_after)
 
 -- ---- a list
 
@@ -37,4 +37,4 @@ PlaysList telling head lines log log_after = RunsBlank NextOf NoneOf telling hea
 
 -- the same with no table at the end: behind these lines it stopped for this cause, or at the last of them
 abbrev pub StopsList : Telling → ImageHead → Stop → List Line → List Event → List Event → Type 0
-StopsList telling head why lines log log_after = StopsBlank NextOf StopsBehind telling head why lines [] log log_after
+StopsList telling head why lines log log_after = StopsBlank NextOf NoneOf StopsBehind telling head why lines [] log log_after
