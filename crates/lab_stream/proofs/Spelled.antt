@@ -14,7 +14,7 @@ use Rattle.rssd_script.proofs.Cuts.{text_lines-cut, text_lines-last, length-line
 use Rattle.lab_lines.specs.Given.{AllGiven}
 use Rattle.lab_stream.specs.declared.stream.Stream.{Stream}
 use Rattle.lab_stream.specs.Texts.{IsEnded, IsText, ReadsNone}
-use Rattle.lab_stream.specs.Streaming.{ahead_of, lines_of, TakesText, TakesLine, EndsInput, HasText}
+use Rattle.lab_stream.specs.Streaming.{ahead_of, lines_of, TakesText, TakesLine, HasText}
 use Rattle.lab_stream.specs.Spelled.{EndsOnce, AreLines, Streamed, StreamedBad}
 
 -- ---- an end of the input among events

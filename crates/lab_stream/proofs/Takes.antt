@@ -1,5 +1,5 @@
 -- How a text comes, part by part and piece by piece.
-use Rattle.std.proofs.Common.{◌≡◌, ◌⊎◌, inl, inr, ℕ, zero, suc, ◌+◌, ◌<◌, ◌≤◌, Bool, true, false, Option, None, Some, drop, length-append, List, [], ◌∷◌, ◌++◌, length, refl, ap, sym, ◌∙◌, subst, arith, append_assoc, append-nil}
+use Rattle.std.proofs.Common.{◌≡◌, inl, inr, ℕ, zero, suc, ◌+◌, ◌<◌, ◌≤◌, Bool, false, None, Some, drop, length-append, List, [], ◌∷◌, ◌++◌, length, refl, ap, sym, ◌∙◌, subst, arith, append_assoc, append-nil}
 use Rattle.rssd_io.specs.Event.{Event, HasEnded, HasFailed, moved, bytes_of, failures, since}
 use Rattle.rssd_io.proofs.Logs.{more_came, failures_append, bytes_more, ends_with}
 use Rattle.lab_stream.specs.declared.stream.Stream.{Stream}

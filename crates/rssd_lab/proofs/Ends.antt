@@ -1,26 +1,25 @@
 -- What came of a stream, or was drawn, and how the run of it ended, make what a status says.
-use Rattle.std.proofs.Common.{◌≡◌, ◌⊎◌, inl, inr, ℕ, zero, suc, ◌+◌, ◌-◌, ◌^◌, ◌≤◌, ◌<◌, Bool, true, false, List, [], ◌∷◌, ◌++◌, length, refl, ap, sym, ◌∙◌, subst, arith, append-nil}
+use Rattle.std.proofs.Common.{◌≡◌, ◌⊎◌, inl, inr, ℕ, zero, suc, ◌+◌, ◌-◌, ◌^◌, ◌<◌, Bool, true, false, List, [], ◌∷◌, ◌++◌, length, ap, sym, ◌∙◌, subst, arith}
 use Rattle.std.specs.Prelude.{if◌then◌else◌, ◌&&◌, ◌==◌, nat_lt}
 use Rattle.die_image.specs.declared.head.ImageHead.{ImageHead}
 use Rattle.rssd_io.specs.Event.{Event, HasFailed}
 use Rattle.rssd_script.specs.declared.lines.Line.{Line}
 use Rattle.rssd_script.specs.declared.lines.Line.TheVariants.{Write, Read, Trim, Idle}
 use Rattle.rssd_run.specs.Played.{IsPlayed}
-use Rattle.rssd_run.specs.Statuses.{Input, Output, input, output, WriteFailed}
+use Rattle.rssd_run.specs.Statuses.{input, output}
 use Rattle.lab_lines.specs.declared.drawn.Drawn.{Drawn}
 use Rattle.lab_lines.specs.declared.lines.LinesEnd.{LinesEnd}
 use Rattle.lab_lines.specs.declared.lines.LinesEnd.TheVariants as ends
 use Rattle.lab_lines.specs.Given.{AllGiven}
-use Rattle.lab_lines.specs.Workload.{DrawPlan, DrawState, drawn_line, drawn_from, drawn_lines, state_after, sector_line, sector_of, is_mixed, is_idle, part_of}
+use Rattle.lab_lines.specs.Workload.{DrawPlan, DrawState, drawn_line, drawn_from, drawn_lines, state_after, sector_line, is_mixed, is_idle, part_of}
 use Rattle.lab_lines.specs.Drawing.{plan_of, state_of, left_of, DrawsLine, DrawsNone}
 use Rattle.lab_lines.proofs.FirstLines.{first_lines}
 use Rattle.lab_stream.specs.declared.stream.Stream.{Stream}
-use Rattle.lab_stream.specs.Streaming.{ahead_of, lines_of, TakesText, TakesLine, TakesNone, TakesBad, TakesSome, StopsStream}
+use Rattle.lab_stream.specs.Streaming.{ahead_of, lines_of, TakesLine, TakesNone, StopsStream}
 use Rattle.lab_stream.specs.Spelled.{Streamed}
 use Rattle.lab_stream.proofs.Spelled.{streamed, streamed_text, streamed_bad, counted}
 use Rattle.rssd_lab.specs.declared.telling.Telling.{Telling}
 use Rattle.rssd_lab.specs.declared.status.Status.{Status}
-use Rattle.rssd_lab.specs.declared.status.Status.TheVariants.{Done, BadWords, BadLine, ReadFault, WriteFault, OutOfMemory}
 use Rattle.rssd_lab.specs.declared.status.Stop.{Stop}
 use Rattle.rssd_lab.specs.declared.status.Stop.TheVariants as stops
 use Rattle.rssd_lab.specs.declared.pace.Paced.{Paced}

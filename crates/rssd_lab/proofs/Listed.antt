@@ -8,7 +8,7 @@ use Rattle.rssd_core.specs.DeviceValue.{Numbers, DeviceValue}
 use Rattle.rssd_io.specs.Event.{Event}
 use Rattle.rssd_script.specs.declared.lines.Line.{Line}
 use Rattle.rssd_script.specs.declared.replies.Reply.{Reply}
-use Rattle.rssd_script.specs.declared.replies.Reply.TheVariants.{First, Second, Declined, Bytes, Done, Moves, Stat, Range, Long, Off, Fault, Spent, NoSpare, NoMemory}
+use Rattle.rssd_script.specs.declared.replies.Reply.TheVariants.{First, Second, Declined, Bytes, Done, Moves}
 use Rattle.rssd_run.specs.Played.{IsPlayed}
 use Rattle.lab_lines.specs.declared.lines.LinesEnd.{LinesEnd}
 use Rattle.lab_lines.specs.Given.{AllGiven}

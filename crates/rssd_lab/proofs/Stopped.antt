@@ -1,5 +1,5 @@
 -- What a run leaves that stopped, and that its log has grown.
-use Rattle.std.proofs.Common.{◌≡◌, ◌⊎◌, inl, inr, ℕ, List, [], ◌∷◌, ◌++◌, Result, Ok, Err, refl, ap, sym, ◌∙◌, subst, append-nil}
+use Rattle.std.proofs.Common.{◌≡◌, inl, inr, List, [], ◌∷◌, ◌++◌, Result, Ok, Err, refl, ap, sym, ◌∙◌, subst, append-nil}
 use Rattle.std.specs.Prelude.{IfErr}
 use Rattle.die_image.specs.declared.head.ImageHead.{ImageHead}
 use Rattle.rssd_core.specs.DeviceValue.{Numbers, DeviceValue}

@@ -1,12 +1,11 @@
 -- What the top call leaves, by the status that it answers, over the logs of its input and its sink.
-use Rattle.std.specs.Prelude.{◌≡◌, ◌⊎◌, ℕ, ◌-◌, ◌^◌, ◌≤◌, ◌<◌, List, [], ◌∷◌, ◌++◌, length, codes}
+use Rattle.std.specs.Prelude.{◌≡◌, ◌⊎◌, ℕ, ◌-◌, ◌^◌, ◌≤◌, List, [], ◌∷◌, ◌++◌, length, codes}
 use Rattle.cell_die.specs.Counts.{raised}
 use Rattle.die_image.specs.declared.head.ImageHead.{ImageHead}
 use Rattle.die_image.specs.Schemes.{row_of}
 use Rattle.rssd_io.specs.Event.{Event, HasEnded}
 use Rattle.rssd_script.specs.declared.lines.Line.{Line}
 use Rattle.lab_lines.specs.declared.kind.Kind.{Kind}
-use Rattle.lab_lines.specs.declared.lines.LinesEnd.{LinesEnd}
 use Rattle.lab_lines.specs.declared.lines.LinesEnd.TheVariants as ends
 use Rattle.lab_lines.specs.Workload.{DrawPlan, drawn_lines}
 use Rattle.lab_stream.specs.Spelled.{Streamed, StreamedBad, StreamedUpTo}

@@ -1,7 +1,6 @@
 -- Lines that are played one after another, and what is told of them.
-use Rattle.std.specs.Prelude.{◌≡◌, ◌⊎◌, ℕ, ◌+◌, ◌-◌, ◌^◌, ◌%◌, ◌==◌, ◌<◌, Bool, List, [], ◌∷◌, ◌++◌, length, flat_map, codes, if◌then◌else◌}
+use Rattle.std.specs.Prelude.{◌≡◌, ◌⊎◌, ℕ, ◌-◌, ◌^◌, ◌%◌, ◌==◌, Bool, List, [], ◌∷◌, ◌++◌, length, flat_map, codes, if◌then◌else◌}
 use Rattle.cell_die.specs.Counts.{sum_of, raised}
-use Rattle.page_codec.specs.Geometry.{shape_of}
 use Rattle.count_die.specs.declared.tally.Totals.{Totals}
 use Rattle.count_die.specs.declared.tally.Tally.{Tally}
 use Rattle.count_die.specs.Tallies.{counted_of, blocks_of}
@@ -13,7 +12,6 @@ use Rattle.rssd_script.specs.declared.lines.Line.{Line}
 use Rattle.rssd_script.specs.declared.replies.Reply.{Reply}
 use Rattle.rssd_script.specs.Replies.{reply_line}
 use Rattle.rssd_run.specs.Played.{IsPlayed, Plays}
-use Rattle.lab_tables.specs.declared.answers.Answers.{Answers}
 use Rattle.lab_tables.specs.Answered.{no_answers, answered_more}
 use Rattle.lab_tables.specs.Tables.{run_row, kind_table, block_table}
 use Rattle.rssd_lab.specs.declared.telling.Telling.{Telling}

@@ -1,5 +1,5 @@
 -- The words are the list of them, item by item, and each part of an order is read from its own.
-use Rattle.std.proofs.Common.{◌≡◌, ℕ, List, true, [], ◌∷◌, length, map, Option, Some, string_bytes, subst, sym, ap, ◌∙◌, arith, Global}
+use Rattle.std.proofs.Common.{◌≡◌, ℕ, List, true, [], ◌∷◌, length, map, Some, string_bytes, subst, sym, ap, ◌∙◌, arith, Global}
 use Rattle.std.specs.Prelude.{codes, decimal}
 use Rattle.die_image.specs.declared.head.ImageHead.{ImageHead}
 use Rattle.die_image.specs.Image.{is_within_limits}

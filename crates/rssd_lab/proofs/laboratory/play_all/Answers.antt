@@ -1,9 +1,9 @@
 -- A line more is a step more, and what is told of it comes behind the rest.
-use Rattle.std.proofs.Common.{◌≡◌, ℕ, ◌+◌, List, [], ◌∷◌, ◌++◌, length, refl, ap, sym, ◌∙◌, subst, arith, append-nil, length-append}
+use Rattle.std.proofs.Common.{ℕ, ◌+◌, [], ◌∷◌, ◌++◌, refl, ap, sym, ◌∙◌, subst, append-nil, length-append}
 use Rattle.rssd_io.proofs.Logs.{came_behind}
-use Rattle.rssd_core.specs.DeviceValue.{Numbers, DeviceValue}
+use Rattle.rssd_core.specs.DeviceValue.{Numbers}
 use Rattle.rssd_run.specs.Played.{Plays}
-use Rattle.rssd_lab.specs.Runs.{Answered, At, PlaysLine, handed, told_for, state_at}
+use Rattle.rssd_lab.specs.Runs.{Answered, PlaysLine, handed, told_for, state_at}
 use Rattle.rssd_lab.proofs.Chains.{chain_none, chain_more}
 use Rattle.rssd_lab.proofs.Told.{at_err, at_ok}
 use Rattle.rssd_lab.proofs.laboratory.play_all.Goals as goal

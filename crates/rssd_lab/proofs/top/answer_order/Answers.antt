@@ -1,6 +1,5 @@
 -- What is told is what the order wants, and the lines are those that it names.
 use Rattle.std.proofs.Common.{◌≡◌, inl, ℕ, ◌<◌, ◌^◌, refl, ap, sym, ◌∙◌, subst}
-use Rattle.die_image.specs.Schemes.{row_of}
 use Rattle.lab_lines.specs.declared.drawn.Plan.{Plan}
 use Rattle.lab_lines.specs.Workload.{DrawPlan}
 use Rattle.lab_lines.specs.Drawing.{plan_of, left_of}

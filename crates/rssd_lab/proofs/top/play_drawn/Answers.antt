@@ -1,5 +1,5 @@
 -- What the lines of a pace leave is what the drawn ones leave.
-use Rattle.std.proofs.Common.{◌≡◌, ℕ, ◌<◌, ◌^◌, ap, sym, ◌∙◌, subst}
+use Rattle.std.proofs.Common.{◌≡◌, ◌<◌, ◌^◌, ap, sym, ◌∙◌, subst}
 use Rattle.lab_lines.specs.declared.drawn.Drawn.{Drawn}
 use Rattle.lab_lines.specs.Drawing.{plan_of, state_of, left_of}
 use Rattle.rssd_run.specs.Statuses.{output}

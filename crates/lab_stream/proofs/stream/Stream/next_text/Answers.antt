@@ -1,8 +1,7 @@
 -- Each turn the text gets what the piece has of it, and then the next piece comes.
-use Rattle.std.proofs.Common.{◌≡◌, inr, ℕ, ◌+◌, ◌<◌, ◌≤◌, Bool, true, false, List, [], ◌++◌, length, sym, ap, ◌∙◌, subst, arith, length-append}
-use Rattle.rssd_script.specs.Reading.{Lacks}
+use Rattle.std.proofs.Common.{◌≡◌, inr, ◌+◌, ◌<◌, ◌≤◌, Bool, length, sym, ap, ◌∙◌, subst, arith, length-append}
 use Rattle.lab_lines.specs.declared.lines.LinesEnd.{LinesEnd}
-use Rattle.lab_stream.specs.Streaming.{ahead_of, IsWhole, TakesPiece, TakesText, StopsStream}
+use Rattle.lab_stream.specs.Streaming.{ahead_of, IsWhole, TakesPiece, StopsStream}
 use Rattle.lab_stream.proofs.Takes.{takes_part, takes_piece, ends_input, failed_later}
 use Rattle.lab_stream.proofs.stream.Stream.next_text.Goals as goal
 
