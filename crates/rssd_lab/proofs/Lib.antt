@@ -5,3 +5,4 @@ pub mod Told
 pub mod Stopped
 pub mod Listed
 pub mod Ends
+pub mod Completes

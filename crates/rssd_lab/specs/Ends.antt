@@ -1,20 +1,22 @@
 -- What the top call leaves, by the status that it answers, over the logs of its input and its sink.
 use Rattle.std.specs.Prelude.{◌≡◌, ◌⊎◌, ℕ, ◌-◌, ◌^◌, ◌≤◌, List, [], ◌∷◌, ◌++◌, length, codes}
+use Rattle.std.specs.List.{AllByRecursion}
 use Rattle.cell_die.specs.Counts.{raised}
 use Rattle.die_image.specs.declared.head.ImageHead.{ImageHead}
 use Rattle.die_image.specs.Schemes.{row_of}
 use Rattle.rssd_io.specs.Event.{Event, HasEnded}
 use Rattle.rssd_script.specs.declared.lines.Line.{Line}
+use Rattle.rssd_script.specs.Script.{IsScript}
 use Rattle.lab_lines.specs.declared.kind.Kind.{Kind}
 use Rattle.lab_lines.specs.declared.lines.LinesEnd.TheVariants as ends
 use Rattle.lab_lines.specs.Workload.{DrawPlan, drawn_lines}
-use Rattle.lab_stream.specs.Spelled.{Streamed, StreamedBad, StreamedUpTo}
+use Rattle.lab_stream.specs.Spelled.{EndsOnce, Streamed, StreamedBad, StreamedUpTo}
 use Rattle.lab_words.specs.declared.asked.Asked.{Asked}
 use Rattle.lab_words.specs.declared.asked.LinesFrom.{LinesFrom}
 use Rattle.lab_words.specs.declared.asked.LinesFrom.TheVariants.{Stream, Drawn}
 use Rattle.lab_words.specs.Orders.{words_of, IsWithin}
 use Rattle.rssd_run.specs.Played.{IsPlayed}
-use Rattle.rssd_run.specs.Statuses.{Input, Output, IsUntouched, TookNothing, GaveLine, WriteFailed}
+use Rattle.rssd_run.specs.Statuses.{Input, Output, takes, taken, ReadFailed, IsUntouched, TookNothing, GaveLine, WriteFailed}
 use Rattle.rssd_lab.specs.declared.telling.Telling.{Telling}
 use Rattle.rssd_lab.specs.declared.status.Status.{Status}
 use Rattle.rssd_lab.specs.declared.status.Status.TheVariants.{Done, BadWords, BadLine, ReadFault, WriteFault, OutOfMemory}
@@ -140,6 +142,22 @@ pub record SaysOf (asked : Asked) (input : Input) (out : Output) (status : Statu
   pub told : IsTold asked telling
   pub says : SaysFrom asked.from telling asked.head input out status
 
+-- what was taken of the input is a script, behind whose end no byte came, and each line of it is played
+pub record HasPlayed (input : Input) : Type 0 where
+  pub lines : List Line
+  pub once : EndsOnce (takes input)
+  pub script : IsScript (taken input) lines
+  pub played : AllByRecursion IsPlayed lines
+
+-- all lines of an order can be played
+abbrev pub ArePlayed : LinesFrom → Input → Type 0
+ArePlayed Stream input = HasPlayed input
+ArePlayed (Drawn kind seed count idle) input = Unit {0}
+
+-- then the status is 0, or 7, where no call of the input or of `out` failed
+abbrev pub IsComplete : Asked → Input → Output → Status → Type 0
+IsComplete asked input out status = ArePlayed asked.from input → (ReadFailed input → ⊥) → (WriteFailed out → ⊥) → (status ≡ Done) ⊎ (status ≡ OutOfMemory)
+
 -- the input was not called, and `out` took the line for words that are no order
 pub record AreBad (input : Input) (out : Output) (status : Status) : Type 0 where
   pub status_is : status ≡ BadWords
@@ -148,5 +166,5 @@ pub record AreBad (input : Input) (out : Output) (status : Status) : Type 0 wher
 
 -- What the call answers: by the order that the words spell; or that they spell none.
 pub record Says (call : Call) (status : Status) : Type 0 where
-  pub order : (asked : Asked) → Spells call.words asked → SaysOf asked call.input call.out status
+  pub order : (asked : Asked) → Spells call.words asked → SaysOf asked call.input call.out status × IsComplete asked call.input call.out status
   pub none : ((asked : Asked) → Spells call.words asked → ⊥) → AreBad call.input call.out status
