@@ -26,5 +26,6 @@ fn main(rt: HostRuntime) -> ExitCode {
     let input = StdSource::new(rt.stdin());
     let mut out = BufSink::new(StdSink::new(rt.stdout()));
     let pace = Clocked::new(&rt, &words);
-    ExitCode::from(lab(rt.alloc(), &words, input, &mut out, pace))
+    let outcome = lab(rt.alloc(), &words, input, &mut out, pace);
+    ExitCode::from(outcome.status)
 }

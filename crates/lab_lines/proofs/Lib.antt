@@ -1,3 +1,3 @@
-mod FirstLines
+pub mod FirstLines
 mod MoreWords
 mod ZipfRows

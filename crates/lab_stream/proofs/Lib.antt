@@ -1,3 +1,4 @@
 pub mod TextLines
 pub mod Parts
 pub mod Takes
+pub mod Spelled

@@ -1,13 +1,12 @@
 -- A text gets the next part of a piece.
-use Rattle.std.proofs.Common.{◌≡◌, ◌⊎◌, inl, inr, ℕ, ◌+◌, ◌-◌, ◌<◌, ◌≤◌, zero, suc, Bool, true, false, List, [], ◌∷◌, ◌++◌, length, take, drop, refl, ap, sym, ◌∙◌, subst, arith, length-append, append_assoc, append-nil}
+use Rattle.std.proofs.Common.{◌≡◌, inl, inr, ℕ, ◌+◌, ◌-◌, ◌<◌, ◌≤◌, Bool, true, false, List, [], ◌∷◌, ◌++◌, length, take, drop, refl, ap, sym, ◌∙◌, subst, arith, append_assoc}
 use Rattle.std.specs.Prelude.{slice_range}
 use Rattle.std.proofs.lemmas.List.{take-append-drop, take-take, drop-take, drop-drop, length-take, length-drop}
 use Rattle.rssd_script.specs.Reading.{Lacks}
 use Rattle.rssd_script.proofs.Texts.{Lacks-append}
-use Rattle.lab_stream.specs.Texts.{IsEnded, IsText, ReadsNone}
+use Rattle.lab_stream.specs.Texts.{IsEnded, IsText}
 use Rattle.lab_stream.specs.declared.stream.Stream.{Stream}
 use Rattle.lab_stream.specs.Streaming.{EndsOrGoesOn, IsWhole, ahead_of}
-use Rattle.lab_stream.proofs.TextLines.{long_none}
 
 -- the first bytes of a range
 pub front_of : (piece : List ℕ) (at end n : ℕ) → at + n ≤ end → take n (slice_range piece at end) ≡ slice_range piece at (at + n)
@@ -45,11 +44,11 @@ all_of xs n e = ap (λ (k : ℕ). take k xs) e ∙ whole_list xs
     whole_list (y ∷ ys) = ap (λ (rest : List ℕ). y ∷ rest) (whole_list ys)
 
 -- a text that has got a part which its room has no place for
-pub too_long : (text more : List ℕ) (count : ℕ) (whole : Bool) → Lacks 10 text → EndsOrGoesOn more count whole → count ≤ length more → 1049 < length (text ++ take count more) → ReadsNone (text ++ take count more)
-too_long text more count true lacks ended within long = long_none (text ++ take count more) (inl (ended_behind text (take count more) lacks ended)) long
-too_long text more count false lacks goes within long =
+pub long_text : (text more : List ℕ) (count : ℕ) (whole : Bool) → Lacks 10 text → EndsOrGoesOn more count whole → count ≤ length more → 1049 < length (text ++ take count more) → IsText (text ++ take count more)
+long_text text more count true lacks ended within long = inl (ended_behind text (take count more) lacks ended)
+long_text text more count false lacks goes within long =
     let lacks_more : Lacks 10 (take count more) = subst (Lacks 10) (sym (all_of more count goes.1)) goes.0 in
-    long_none (text ++ take count more) (inr (Lacks-append 10 text (take count more) lacks lacks_more, omega (arith, long))) long
+    inr (Lacks-append 10 text (take count more) lacks lacks_more, omega (arith, long))
 
 -- whether the text is whole with its new part
 pub whole_now : {S : Type 0} (whole : Bool) (text now more : List ℕ) (count : ℕ) (stream : Stream S) → Lacks 10 text → EndsOrGoesOn more count whole

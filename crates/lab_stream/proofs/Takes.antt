@@ -1,10 +1,11 @@
 -- How a text comes, part by part and piece by piece.
-use Rattle.std.proofs.Common.{◌≡◌, ◌⊎◌, inl, inr, ℕ, zero, suc, ◌+◌, ◌<◌, ◌≤◌, Bool, true, false, Option, None, Some, drop, length-append, List, [], ◌∷◌, ◌++◌, length, refl, ap, sym, ◌∙◌, subst, arith, append_assoc, append-nil}
+use Rattle.std.proofs.Common.{◌≡◌, inl, inr, ℕ, zero, suc, ◌+◌, ◌<◌, ◌≤◌, Bool, false, None, Some, drop, length-append, List, [], ◌∷◌, ◌++◌, length, refl, ap, sym, ◌∙◌, subst, arith, append_assoc, append-nil}
 use Rattle.rssd_io.specs.Event.{Event, HasEnded, HasFailed, moved, bytes_of, failures, since}
 use Rattle.rssd_io.proofs.Logs.{more_came, failures_append, bytes_more, ends_with}
 use Rattle.lab_stream.specs.declared.stream.Stream.{Stream}
 use Rattle.lab_stream.specs.Texts.{IsText}
-use Rattle.lab_stream.specs.Streaming.{ahead_of, MovesPart, TakesPiece, TakesText, TakesNone, HasText}
+use Rattle.rssd_script.specs.Reading.{Lacks}
+use Rattle.lab_stream.specs.Streaming.{ahead_of, MovesPart, TakesPiece, TakesText, TakesNone, EndsInput, HasText}
 
 pub takes_none : {S : Type 0} (log : S → List Event) (now : Stream S) → TakesText log now [] now
 takes_none log now = record { events = []; came = sym (append-nil (log now.source)); served = refl; order = append-nil (ahead_of now) }
@@ -53,10 +54,22 @@ failed_later old between new events came failed =
     omega (arith, behind old events new, same, failed)
 
 -- a text that is not empty is that of a line, and an empty one stands at the end of the input
-pub text_is : {S : Type 0} (log : S → List Event) (text : List ℕ) (new : Stream S) → HasText log text new → 0 < length text → IsText text
-text_is log text new (inl ended) some = inl ended
-text_is log text new (inr rest) some = inr (rest.0, some)
+pub text_is : {S : Type 0} (log : S → List Event) (old : Stream S) (text : List ℕ) (new : Stream S) → HasText log old text new → 0 < length text → IsText text
+text_is log old text new (inl ended) some = inl ended
+text_is log old text new (inr ends) some = inr (ends.no_feed, some)
 
-pub none_is : {S : Type 0} (log : S → List Event) (old new : Stream S) (text : List ℕ) → HasText log text new → TakesText log old text new → text ≡ [] → TakesNone log old new
+pub none_is : {S : Type 0} (log : S → List Event) (old new : Stream S) (text : List ℕ) → HasText log old text new → TakesText log old text new → text ≡ [] → TakesNone log old new
 none_is log old new text (inl ended) takes none = absurd (omega (arith, ap length (sym none ∙ ended.is), length-append ended.front (10 ∷ [])))
-none_is log old new text (inr rest) takes none = record { takes = subst (λ (t : List ℕ). TakesText log old t new) none takes; none = rest.1; ended = rest.2 }
+none_is log old new text (inr ends) takes none = record { takes = subst (λ (t : List ℕ). TakesText log old t new) none takes; none = ends.none; ended = ends.ended }
+
+-- a text behind which a take found the end of the input
+pub ends_input : {S : Type 0} (log : S → List Event) (old between new : Stream S) (text : List ℕ) → TakesText log old text between → Lacks 10 text → TakesPiece log between false new → EndsInput log old text new
+ends_input log old between new text takes no_feed piece =
+    let last : log new.source ≡ log between.source ++ moved [] ∷ [] = subst (λ (bytes : List ℕ). log new.source ≡ log between.source ++ moved bytes ∷ []) (piece.has_none refl) piece.came in
+    record {
+      no_feed = no_feed;
+      none = piece.has_none refl;
+      front = takes.events;
+      came = more_came (log old.source) (log between.source) (log new.source) takes.events (moved []) takes.came last;
+      ended = at_end log between new piece;
+    }

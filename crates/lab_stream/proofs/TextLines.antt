@@ -1,12 +1,11 @@
 -- A text of one line is cut into that line alone.
-use Rattle.std.proofs.Common.{◌≡◌, ◌⊎◌, inl, inr, ℕ, ◌+◌, ◌<◌, List, [], ◌∷◌, ◌++◌, length, refl, ap, sym, ◌∙◌, subst, arith, length-append}
+use Rattle.std.proofs.Common.{◌≡◌, inl, inr, ℕ, ◌+◌, ◌<◌, List, [], ◌∷◌, ◌++◌, length, refl, ap, ◌∙◌, subst, arith, length-append}
 use Rattle.std.specs.List.{AllZip}
 use Rattle.rssd_script.specs.declared.lines.Line.{Line}
 use Rattle.rssd_script.specs.Script.{Spells, text_lines}
-use Rattle.rssd_script.specs.Reading.{Lacks}
 use Rattle.rssd_script.specs.Scripts.{Reads}
 use Rattle.rssd_script.proofs.Cuts.{text_lines-cut, text_lines-last, long_spells_none}
-use Rattle.lab_stream.specs.Texts.{IsEnded, IsText, ReadsNone}
+use Rattle.lab_stream.specs.Texts.{IsText, ReadsNone}
 
 -- the line that a text is, without its line feed
 record IsOne (text : List ℕ) : Type 0 where

@@ -1,2 +1,3 @@
 pub mod Texts
 pub mod Streaming
+pub mod Spelled

@@ -8,7 +8,7 @@ use Rattle.rssd_script.specs.Scripts.{Reads}
 use Rattle.lab_lines.specs.declared.lines.LinesEnd.{LinesEnd}
 use Rattle.lab_lines.specs.declared.lines.LinesEnd.TheVariants.{OutOfMemory, Fault, BadLine}
 use Rattle.lab_stream.specs.declared.stream.Stream.{Stream}
-use Rattle.lab_stream.specs.Texts.{IsEnded, ReadsNone}
+use Rattle.lab_stream.specs.Texts.{IsEnded, IsText, ReadsNone}
 
 -- the bytes that were taken and not read yet
 abbrev pub ahead_of : {S : Type 0} → Stream S → List ℕ
@@ -50,6 +50,8 @@ IsWhole false text stream = Lacks 10 text × (ahead_of stream ≡ [])
 pub record TooLong {S : Type 0} (old : Stream S) (text : List ℕ) (new : Stream S) : Type 0 where
   pub long : List ℕ
   pub moves : MovesPart old text new long
+  pub is_text : IsText long
+  pub is_long : 1049 < length long
   pub none : ReadsNone long
 
 -- the next piece was taken, or the input is at its end
@@ -68,14 +70,23 @@ pub record TakesText {S : Type 0} (log : S → List Event) (old : Stream S) (tex
   pub served : failures events ≡ 0
   pub order : ahead_of old ++ bytes_of events ≡ text ++ ahead_of new
 
--- the text is whole: it ends with its line feed, or the source is at its end
-abbrev pub HasText : {S : Type 0} → (S → List Event) → List ℕ → Stream S → Type 0
-HasText log text new = IsEnded text ⊎ (Lacks 10 text × (ahead_of new ≡ []) × HasEnded (log new.source))
+-- the text has no line feed, and the last take between the two states found the end of the input behind it
+pub record EndsInput {S : Type 0} (log : S → List Event) (old : Stream S) (text : List ℕ) (new : Stream S) : Type 0 where
+  pub no_feed : Lacks 10 text
+  pub none : ahead_of new ≡ []
+  pub front : List Event
+  pub came : log new.source ≡ log old.source ++ (front ++ moved [] ∷ [])
+  pub ended : HasEnded (log new.source)
 
--- the next text spelled this line
+-- the text is whole: it ends with its line feed, or the input ends behind it
+abbrev pub HasText : {S : Type 0} → (S → List Event) → Stream S → List ℕ → Stream S → Type 0
+HasText log old text new = IsEnded text ⊎ EndsInput log old text new
+
+-- the next text is whole and spelled this line
 pub record TakesLine {S : Type 0} (log : S → List Event) (old : Stream S) (line : Line) (new : Stream S) : Type 0 where
   pub text : List ℕ
   pub takes : TakesText log old text new
+  pub whole : HasText log old text new
   pub reads : Reads text (line ∷ [])
   pub counted : lines_of new ≡ raised (lines_of old)
 
@@ -85,15 +96,23 @@ pub record TakesNone {S : Type 0} (log : S → List Event) (old new : Stream S) 
   pub none : ahead_of new ≡ []
   pub ended : HasEnded (log new.source)
 
--- the next text spells no line, and this is its number
+-- the next text spells no line, and this is its number; it is whole, or has more bytes already than any line
 pub record TakesBad {S : Type 0} (log : S → List Event) (old : Stream S) (number : ℕ) (new : Stream S) : Type 0 where
   pub text : List ℕ
   pub takes : TakesText log old text new
+  pub is_text : IsText text
+  pub whole : HasText log old text new ⊎ (1049 < length text)
   pub none : ReadsNone text
   pub number_is : number ≡ raised (lines_of old)
 
+-- a text came, and no take failed
+pub record TakesSome {S : Type 0} (log : S → List Event) (old new : Stream S) : Type 0 where
+  pub text : List ℕ
+  pub takes : TakesText log old text new
+  pub some : 0 < length text
+
 -- why no line came
 abbrev pub StopsStream : {S : Type 0} → (S → List Event) → Stream S → LinesEnd → Stream S → Type 0
-StopsStream log old OutOfMemory new = Unit {0}
+StopsStream log old OutOfMemory new = TakesSome log old new
 StopsStream log old Fault new = HasFailed (log old.source) (log new.source)
 StopsStream log old (BadLine number) new = TakesBad log old number new

@@ -65,23 +65,41 @@ fn read_line(alloc: Global, text: &[u8], number: u64) -> Result<Line, LinesEnd>
     }
 }
 
+/// Room for a piece.
+fn new_piece(alloc: Global) -> Result<Vec<u8>, AllocError>
+    ensures { IfOk result (λ piece. length piece.items ≡ 65_536) }
+{
+    vec![in alloc; 0u8; PIECE_BYTES]
+}
+
 impl<S: Source + Drop> Stream<S> {
     ghost use Rattle.rssd_io.specs.Event.{Event, HasFailed, bytes_of, moved};
     ghost use Rattle.lab_stream.specs.Streaming.{ahead_of, lines_of, source_of, IsPart, MovesPart, IsWhole, TooLong, TakesPiece, TakesText, HasText, StopsStream};
 
-    /// The lines of a source.
-    pub fn new(alloc: Global, source: S) -> Result<Stream<S>, AllocError>
+    /// The lines of a source. Where there is no memory for a piece, the source comes back.
+    pub fn new(alloc: Global, source: S) -> Result<Stream<S>, S>
         ensures ahead { IfOk result (λ stream. ahead_of stream ≡ []) }
         ensures lines { IfOk result (λ stream. lines_of stream ≡ 0) }
         ensures source { IfOk result (λ stream. source_of stream ≡ source) }
+        ensures same { IfErr result (λ back. back ≡ source) }
     {
-        Ok(Stream {
-            source,
-            piece: vec![in alloc; 0u8; PIECE_BYTES]?,
-            at: 0,
-            end: 0,
-            lines: 0,
-        })
+        match new_piece(alloc) {
+            Ok(piece) => Ok(Stream {
+                source,
+                piece,
+                at: 0,
+                end: 0,
+                lines: 0,
+            }),
+            Err(_) => Err(source),
+        }
+    }
+
+    /// The source.
+    pub fn into_source(self) -> S
+        ensures { result ≡ source_of self }
+    {
+        self.source
     }
 
     /// How many bytes of the next text the piece has, and whether the text is whole with them.
@@ -136,7 +154,7 @@ impl<S: Source + Drop> Stream<S> {
     fn next_text(&mut self, text: &mut TextRoom) -> Result<(), LinesEnd>
         requires { text.old.items ≡ [] }
         ensures takes { OnOk result (TakesText S.log self.old text.new.items self.new) }
-        ensures has { OnOk result (HasText S.log text.new.items self.new) }
+        ensures has { OnOk result (HasText S.log self.old text.new.items self.new) }
         ensures lines { OnOk result (self.new.lines ≡ self.old.lines) }
         ensures stops { IfErr result (λ why. StopsStream S.log self.old why self.new) }
     {

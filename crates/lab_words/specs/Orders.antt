@@ -1,5 +1,5 @@
 -- The words of a laboratory, and what they ask for.
-use Rattle.std.specs.Prelude.{◌≡◌, ℕ, ◌^◌, ◌<◌, ◌≤◌, true, List, [], ◌∷◌, codes, decimal}
+use Rattle.std.specs.Prelude.{◌≡◌, ℕ, ◌^◌, ◌<◌, ◌≤◌, true, List, ◌∷◌, codes, decimal}
 use Rattle.die_image.specs.Image.{is_within_limits}
 use Rattle.rssd_words.specs.Commands.{head_words}
 use Rattle.lab_lines.specs.declared.kind.Kind.{Kind}

@@ -88,10 +88,23 @@ fn read_idle(word: &str) -> Option<u32>
     if idle <= 1_000 { Some(idle) } else { None }
 }
 
-/// The lines of a workload that these words spell.
-fn read_drawn(kind: &str, seed: &str, count: &str, idle: &str) -> Option<LinesFrom>
-    ensures { IfSome result (λ from. IsDrawnWithin from × ((voice every : List ℕ) (rest : List (List ℕ))
+/// The lines of a source, which one word spells.
+fn read_stream(name: &str) -> Option<LinesFrom>
+    ensures found { IfSome result (λ from. (from ≡ LinesFrom.Stream) × (name.now ≡ codes "play")) }
+    ensures only { name.now ≡ codes "play" → result ≡ Some LinesFrom.Stream }
+{
+    match name {
+        "play" => Some(LinesFrom::Stream),
+        _ => None,
+    }
+}
+
+/// The lines of a workload with these numbers.
+fn read_numbers(kind: &str, seed: &str, count: &str, idle: &str) -> Option<LinesFrom>
+    ensures found { IfSome result (λ from. IsDrawnWithin from × ((voice every : List ℕ) (rest : List (List ℕ))
         → codes "draw" ∷ voice ∷ kind.now ∷ seed.now ∷ count.now ∷ idle.now ∷ every ∷ rest ≡ spelled_front from voice every rest)) }
+    ensures only { (k : Chosen) (s n i : ℕ) → IsDrawnWithin (LinesFrom.Drawn k s n i)
+        → kind.now ≡ kind_word k → seed.now ≡ decimal s → count.now ≡ decimal n → idle.now ≡ decimal i → result ≡ Some (LinesFrom.Drawn k s n i) }
 {
     Some(LinesFrom::Drawn {
         kind: read_kind(kind)?,
@@ -101,18 +114,38 @@ fn read_drawn(kind: &str, seed: &str, count: &str, idle: &str) -> Option<LinesFr
     })
 }
 
+/// The lines of a workload that these words spell.
+fn read_drawn(name: &str, kind: &str, seed: &str, count: &str, idle: &str) -> Option<LinesFrom>
+    ensures found { IfSome result (λ from. IsDrawnWithin from × ((voice every : List ℕ) (rest : List (List ℕ))
+        → name.now ∷ voice ∷ kind.now ∷ seed.now ∷ count.now ∷ idle.now ∷ every ∷ rest ≡ spelled_front from voice every rest)) }
+    ensures only { (k : Chosen) (s n i : ℕ) → IsDrawnWithin (LinesFrom.Drawn k s n i) → name.now ≡ codes "draw"
+        → kind.now ≡ kind_word k → seed.now ≡ decimal s → count.now ≡ decimal n → idle.now ≡ decimal i → result ≡ Some (LinesFrom.Drawn k s n i) }
+{
+    match name {
+        "draw" => read_numbers(kind, seed, count, idle),
+        _ => None,
+    }
+}
+
 /// An order for these lines, with a voice and a number, and a head.
-fn order(from: LinesFrom, voice: &str, every: &str, head: Option<ImageHead>) -> Option<Asked>
-    requires from { IsDrawnWithin from }
+fn order(
+    from: Option<LinesFrom>,
+    voice: &str,
+    every: &str,
+    head: Option<ImageHead>,
+) -> Option<Asked>
+    requires from { IfSome from (λ f. IsDrawnWithin f) }
     requires head { IfSome head (λ h. is_within_limits h ≡ true) }
     ensures within { IfSome result (λ asked. IsWithin asked) }
-    ensures from { IfSome result (λ asked. asked.from ≡ from) }
+    ensures from { IfSome result (λ asked. from ≡ Some asked.from) }
     ensures voice { IfSome result (λ asked. voice.now ≡ voice_word asked.voice) }
     ensures every { IfSome result (λ asked. every.now ≡ decimal asked.every) }
     ensures head { IfSome result (λ asked. head ≡ Some asked.head) }
+    ensures only { (asked : Order) → IsWithin asked → from ≡ Some asked.from → voice.now ≡ voice_word asked.voice → every.now ≡ decimal asked.every
+        → head ≡ Some asked.head → result ≡ Some asked }
 {
     Some(Asked {
-        from,
+        from: from?,
         voice: read_voice(voice)?,
         every: read_every(every)?,
         head: head?,
@@ -122,21 +155,23 @@ fn order(from: LinesFrom, voice: &str, every: &str, head: Option<ImageHead>) -> 
 /// What the words ask for: `play VOICE EVERY HEAD`, or `draw VOICE KIND SEED COUNT IDLE EVERY HEAD`, where HEAD is SCHEME BLOCKS
 /// PAGES SECTORS REUSE.
 pub fn read_words(words: &[String]) -> Option<Asked>
-    ensures { IfSome result (λ asked. IsWithin asked) }
+    ensures found { IfSome result (λ asked. IsWithin asked × (map string_bytes words.now ≡ words_of asked)) }
+    ensures only { (asked : Order) → IsWithin asked → map string_bytes words.now ≡ words_of asked → result ≡ Some asked }
 {
     match words {
         [name, voice, every, a, b, c, d, e] => {
-            if name.as_str() != "play" {
-                return None;
-            }
+            let from = read_stream(name.as_str());
             let head = read_head(a.as_str(), b.as_str(), c.as_str(), d.as_str(), e.as_str());
-            order(LinesFrom::Stream, voice.as_str(), every.as_str(), head)
+            order(from, voice.as_str(), every.as_str(), head)
         }
         [name, voice, kind, seed, count, idle, every, a, b, c, d, e] => {
-            if name.as_str() != "draw" {
-                return None;
-            }
-            let from = read_drawn(kind.as_str(), seed.as_str(), count.as_str(), idle.as_str())?;
+            let from = read_drawn(
+                name.as_str(),
+                kind.as_str(),
+                seed.as_str(),
+                count.as_str(),
+                idle.as_str(),
+            );
             let head = read_head(a.as_str(), b.as_str(), c.as_str(), d.as_str(), e.as_str());
             order(from, voice.as_str(), every.as_str(), head)
         }

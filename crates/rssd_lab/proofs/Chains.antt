@@ -1,5 +1,5 @@
 -- Steps one after another, and one more.
-use Rattle.std.proofs.Common.{◌≡◌, ◌+◌, List, [], ◌∷◌, ◌++◌, length, refl, sym, subst}
+use Rattle.std.proofs.Common.{List, [], ◌∷◌, ◌++◌, refl, subst}
 use Rattle.rssd_lab.specs.Chain.{Chain}
 
 pub chain_none : {S E : Type 0} (step : S → E → S → Type 0) (now : S) → Chain step now [] now

@@ -1,10 +1,7 @@
 -- Pieces that were handed on, one after another.
-use Rattle.std.proofs.Common.{◌≡◌, ◌⊎◌, inl, inr, ℕ, List, [], ◌∷◌, ◌++◌, refl, ap, sym, ◌∙◌, append_assoc, append-nil, Result, Ok, Err}
-use Rattle.std.specs.Prelude.{OnOk, OnErr}
+use Rattle.std.proofs.Common.{◌≡◌, ℕ, List, [], ◌∷◌, ◌++◌, ap, sym, ◌∙◌, append_assoc}
 use Rattle.std.proofs.lemmas.List.Concat.{flat_map-append}
-use Rattle.rssd_io.specs.Event.{Event, HasFailed, moved, flushed, failed}
-use Rattle.rssd_io.specs.Pieces.{all_given, Gives, HandsOn, StopsIn}
-use Rattle.rssd_io.proofs.Logs.{given_append}
+use Rattle.rssd_io.specs.Event.{Event, moved, flushed}
 use Rattle.rssd_lab.specs.Runs.{handed}
 
 pub handed_append : (pieces more : List (List ℕ)) → handed (pieces ++ more) ≡ handed pieces ++ handed more

@@ -3,3 +3,6 @@ pub mod Handed
 pub mod BlankMounts
 pub mod Told
 pub mod Stopped
+pub mod Listed
+pub mod Ends
+pub mod Completes

@@ -1,9 +1,9 @@
 -- What a run leaves that stopped, and that its log has grown.
-use Rattle.std.proofs.Common.{◌≡◌, ℕ, List, [], ◌∷◌, ◌++◌, Result, Ok, Err, refl, ap, sym, ◌∙◌, subst, append-nil}
+use Rattle.std.proofs.Common.{◌≡◌, inl, inr, List, [], ◌∷◌, ◌++◌, Result, Ok, Err, refl, ap, sym, ◌∙◌, subst, append-nil}
 use Rattle.std.specs.Prelude.{IfErr}
 use Rattle.die_image.specs.declared.head.ImageHead.{ImageHead}
 use Rattle.rssd_core.specs.DeviceValue.{Numbers, DeviceValue}
-use Rattle.rssd_io.specs.Event.{Event, Grows}
+use Rattle.rssd_io.specs.Event.{Event, Grows, HasFailed}
 use Rattle.rssd_io.proofs.Logs.{came_behind}
 use Rattle.rssd_script.specs.declared.lines.Line.{Line}
 use Rattle.lab_lines.specs.declared.lines.LinesEnd.{LinesEnd}
@@ -24,9 +24,9 @@ grew gives d telling old new (first ∷ rest) chain =
     let given : List Event = handed (told_for telling chain.0.device chain.0.score first.reply) in
     (given ++ more.0, came_behind old.log chain.0.log new.log given more.0 chain.1.told more.1)
 
-module _ {L : Type 0} (gives : L → Line → L → Type 0) (stops : L → LinesEnd → L → Type 0) (telling : Telling) (device : DeviceValue) where
+module _ {L : Type 0} (gives : L → Line → L → Type 0) (ended : L → L → Type 0) (stops : L → LinesEnd → L → Type 0) (telling : Telling) (device : DeviceValue) where
   pub stops_run : (score : Score) → IsFirst device score → (lines : L) (log between : List Event) → between ≡ log ++ handed (run_head ∷ []) → (why : Stop) (last : At L)
-      → StopsLines gives stops device.numbers telling (state_at lines device score between) why last → StopsRun gives stops telling device why lines last.lines log last.log
+      → StopsLines gives stops device.numbers telling (state_at lines device score between) why last → StopsRun gives ended stops telling device why lines last.lines log last.log
   stops_run score first lines log between head (Lines why) last stopped = record {
     score = score;
     first = first;
@@ -43,17 +43,39 @@ module _ {L : Type 0} (gives : L → Line → L → Type 0) (stops : L → Lines
     lines_last = refl;
     log_last = refl;
   }
-  stops_run score first lines log between head Sink last stopped = failed_later log between last.log (handed (run_head ∷ [])) head stopped
+  stops_run score first lines log between head Sink last stopped = inr (inl (record {
+    score = score;
+    first = first;
+    last = last;
+    plays = subst (λ (l : List Event). StopsLines gives stops device.numbers telling (state_at lines device score l) Sink last) head stopped;
+    lines_last = refl;
+    log_last = refl;
+  }))
   stops_run score first lines log between head OutOfMemory last stopped = absurd stopped
 
+  -- a call of the sink failed, wherever it was
+  pub sink_failed : (lines after : L) (log log_after : List Event) → StopsRun gives ended stops telling device Sink lines after log log_after → HasFailed log log_after
+  sink_failed lines after log log_after (inl head) = head.1
+  sink_failed lines after log log_after (inr (inl line)) =
+      let told = line.plays in
+      let start = log ++ handed (run_head ∷ []) in
+      let more = grew gives device.numbers telling (state_at lines device line.score start) told.last told.answered told.plays in
+      let failed : HasFailed told.last.log log_after = subst (λ (l : List Event). HasFailed told.last.log l) line.log_last told.failed in
+      failed_later log told.last.log log_after (handed (run_head ∷ []) ++ more.0) (came_behind log start told.last.log (handed (run_head ∷ [])) more.0 refl more.1) failed
+  sink_failed lines after log log_after (inr (inr end)) =
+      let all = end.plays in
+      let start = log ++ handed (run_head ∷ []) in
+      let more = grew gives device.numbers telling (state_at lines device end.score start) (record end.last { lines = all.last }) all.answered all.plays in
+      failed_later log end.last.log log_after (handed (run_head ∷ []) ++ more.0) (came_behind log start end.last.log (handed (run_head ∷ [])) more.0 refl more.1) end.failed
+
   blank_stops : (head : ImageHead) → IsBlankDevice head device → (lines after : L) (log log_after : List Event) (why : Stop)
-      → StopsRun gives stops telling device why lines after log log_after → StopsBlank gives stops telling head why lines after log log_after
+      → StopsRun gives ended stops telling device why lines after log log_after → StopsBlank gives ended stops telling head why lines after log log_after
   blank_stops head blank lines after log log_after (Lines why) stopped = (device, blank, stopped)
   blank_stops head blank lines after log log_after (NotPlayed number) stopped = (device, blank, stopped)
   blank_stops head blank lines after log log_after Sink stopped = (device, blank, stopped)
   blank_stops head blank lines after log log_after OutOfMemory stopped = absurd stopped
 
   pub stops_blank : (r : Result (Unit {0}) Stop) (head : ImageHead) → IsBlankDevice head device → (lines after : L) (log log_after : List Event)
-      → IfErr r (λ why. StopsRun gives stops telling device why lines after log log_after) → IfErr r (λ why. StopsBlank gives stops telling head why lines after log log_after)
+      → IfErr r (λ why. StopsRun gives ended stops telling device why lines after log log_after) → IfErr r (λ why. StopsBlank gives ended stops telling head why lines after log log_after)
   stops_blank (Ok x) head blank lines after log log_after stopped = tt
   stops_blank (Err why) head blank lines after log log_after stopped = blank_stops head blank lines after log log_after why stopped

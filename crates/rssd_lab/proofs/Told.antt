@@ -1,5 +1,5 @@
 -- What was told, and failures behind it.
-use Rattle.std.proofs.Common.{◌≡◌, ℕ, Bool, true, false, List, [], ◌∷◌, ◌++◌, Result, Ok, Err, refl, ap, sym, ◌∙◌, subst, append_assoc, true≢false}
+use Rattle.std.proofs.Common.{◌≡◌, true, false, List, [], ◌∷◌, ◌++◌, Result, Ok, Err, ap, sym, ◌∙◌, append_assoc, true≢false}
 use Rattle.std.specs.Prelude.{OnOk, OnErr, is_err, if◌then◌else◌}
 use Rattle.rssd_io.specs.Event.{Event, HasFailed, Flushed, flushed, failed}
 use Rattle.rssd_io.specs.Pieces.{Gives, all_given}

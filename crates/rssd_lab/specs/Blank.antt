@@ -27,7 +27,7 @@ RunsBlank gives ended telling head lines lines_after log log_after =
     (device : DeviceValue) × IsBlankDevice head device × Runs gives ended telling device lines lines_after log log_after
 
 -- the same up to where it stopped, or nothing where there was no memory for the device
-abbrev pub StopsBlank : {L : Type 0} → (L → Line → L → Type 0) → (L → LinesEnd → L → Type 0) → Telling → ImageHead → Stop → L → L → List Event → List Event → Type 0
-StopsBlank gives stops telling head OutOfMemory lines lines_after log log_after = (lines_after ≡ lines) × (log_after ≡ log)
-StopsBlank gives stops telling head why lines lines_after log log_after =
-    (device : DeviceValue) × IsBlankDevice head device × StopsRun gives stops telling device why lines lines_after log log_after
+abbrev pub StopsBlank : {L : Type 0} → (L → Line → L → Type 0) → (L → L → Type 0) → (L → LinesEnd → L → Type 0) → Telling → ImageHead → Stop → L → L → List Event → List Event → Type 0
+StopsBlank gives ended stops telling head OutOfMemory lines lines_after log log_after = (lines_after ≡ lines) × (log_after ≡ log)
+StopsBlank gives ended stops telling head why lines lines_after log log_after =
+    (device : DeviceValue) × IsBlankDevice head device × StopsRun gives ended stops telling device why lines lines_after log log_after

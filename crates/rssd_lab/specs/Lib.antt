@@ -3,3 +3,5 @@ pub mod Pacing
 pub mod Runs
 pub mod Blank
 pub mod Top
+pub mod Listed
+pub mod Ends

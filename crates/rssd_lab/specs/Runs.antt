@@ -1,7 +1,6 @@
 -- Lines that are played one after another, and what is told of them.
-use Rattle.std.specs.Prelude.{◌≡◌, ◌⊎◌, ℕ, ◌+◌, ◌-◌, ◌^◌, ◌%◌, ◌==◌, ◌<◌, Bool, List, [], ◌∷◌, ◌++◌, length, flat_map, codes, if◌then◌else◌}
+use Rattle.std.specs.Prelude.{◌≡◌, ◌⊎◌, ℕ, ◌-◌, ◌^◌, ◌%◌, ◌==◌, Bool, List, [], ◌∷◌, ◌++◌, length, flat_map, codes, if◌then◌else◌}
 use Rattle.cell_die.specs.Counts.{sum_of, raised}
-use Rattle.page_codec.specs.Geometry.{shape_of}
 use Rattle.count_die.specs.declared.tally.Totals.{Totals}
 use Rattle.count_die.specs.declared.tally.Tally.{Tally}
 use Rattle.count_die.specs.Tallies.{counted_of, blocks_of}
@@ -13,7 +12,6 @@ use Rattle.rssd_script.specs.declared.lines.Line.{Line}
 use Rattle.rssd_script.specs.declared.replies.Reply.{Reply}
 use Rattle.rssd_script.specs.Replies.{reply_line}
 use Rattle.rssd_run.specs.Played.{IsPlayed, Plays}
-use Rattle.lab_tables.specs.declared.answers.Answers.{Answers}
 use Rattle.lab_tables.specs.Answered.{no_answers, answered_more}
 use Rattle.lab_tables.specs.Tables.{run_row, kind_table, block_table}
 use Rattle.rssd_lab.specs.declared.telling.Telling.{Telling}
@@ -105,11 +103,22 @@ pub record PlaysUpTo {L : Type 0} (gives : L → Line → L → Type 0) (After :
 abbrev pub GivesOther : {L : Type 0} → (L → Line → L → Type 0) → L → L → Type 0
 GivesOther gives old new = (line : Line) × gives old line new × (¬ IsPlayed line)
 
+-- The lines of a run whose sink failed: those before one were played and told, that one came and was played, and then a call failed.
+pub record TellsUpTo {L : Type 0} (gives : L → Line → L → Type 0) (d : Numbers) (telling : Telling) (old new : At L) : Type 0 where
+  pub answered : List Answered
+  pub last : At L
+  pub plays : PlaysLines gives d telling old answered last
+  pub line : Line
+  pub reply : Reply
+  pub given : gives last.lines line new.lines
+  pub played : Plays d line reply last.device new.device
+  pub failed : HasFailed last.log new.log
+
 -- what a run of lines leaves that stopped for this cause
 abbrev pub StopsLines : {L : Type 0} → (L → Line → L → Type 0) → (L → LinesEnd → L → Type 0) → Numbers → Telling → At L → Stop → At L → Type 0
 StopsLines gives stops d telling old (Lines why) new = PlaysUpTo gives (λ last lines. stops last why lines) d telling old new
 StopsLines gives stops d telling old (NotPlayed number) new = PlaysUpTo gives (GivesOther gives) d telling old new × (number ≡ raised new.score.answers.lines)
-StopsLines gives stops d telling old Sink new = HasFailed old.log new.log
+StopsLines gives stops d telling old Sink new = TellsUpTo gives d telling old new
 StopsLines gives stops d telling old OutOfMemory new = ⊥
 
 -- the head of a run's table
@@ -139,9 +148,25 @@ pub record RunsUpTo {L : Type 0} (gives : L → Line → L → Type 0) (stops : 
   pub lines_last : last.lines ≡ lines_after
   pub log_last : last.log ≡ log_after
 
+-- all lines were played and told, and then a call failed at what is given at the end
+pub record EndsUntold {L : Type 0} (gives : L → Line → L → Type 0) (ended : L → L → Type 0) (telling : Telling) (device : DeviceValue) (lines lines_after : L) (log log_after : List Event) : Type 0 where
+  pub score : Score
+  pub first : IsFirst device score
+  pub last : At L
+  pub plays : PlaysAll gives ended device.numbers telling (state_at lines device score (log ++ handed (run_head ∷ []))) last
+  pub lines_last : last.lines ≡ lines_after
+  pub failed : HasFailed last.log log_after
+
+-- A call of the sink failed: at the head of the table, before a line was asked for; at what is told of a line; or at the end.
+abbrev pub StopsAtSink : {L : Type 0} → (L → Line → L → Type 0) → (L → L → Type 0) → (L → LinesEnd → L → Type 0) → Telling → DeviceValue → L → L → List Event → List Event → Type 0
+StopsAtSink gives ended stops telling device lines lines_after log log_after =
+    ((lines_after ≡ lines) × HasFailed log log_after)
+    ⊎ RunsUpTo gives stops telling device Sink lines lines_after log log_after
+    ⊎ EndsUntold gives ended telling device lines lines_after log log_after
+
 -- what a run leaves that stopped for this cause
-abbrev pub StopsRun : {L : Type 0} → (L → Line → L → Type 0) → (L → LinesEnd → L → Type 0) → Telling → DeviceValue → Stop → L → L → List Event → List Event → Type 0
-StopsRun gives stops telling device (Lines why) lines lines_after log log_after = RunsUpTo gives stops telling device (Lines why) lines lines_after log log_after
-StopsRun gives stops telling device (NotPlayed number) lines lines_after log log_after = RunsUpTo gives stops telling device (NotPlayed number) lines lines_after log log_after
-StopsRun gives stops telling device Sink lines lines_after log log_after = HasFailed log log_after
-StopsRun gives stops telling device OutOfMemory lines lines_after log log_after = ⊥
+abbrev pub StopsRun : {L : Type 0} → (L → Line → L → Type 0) → (L → L → Type 0) → (L → LinesEnd → L → Type 0) → Telling → DeviceValue → Stop → L → L → List Event → List Event → Type 0
+StopsRun gives ended stops telling device (Lines why) lines lines_after log log_after = RunsUpTo gives stops telling device (Lines why) lines lines_after log log_after
+StopsRun gives ended stops telling device (NotPlayed number) lines lines_after log log_after = RunsUpTo gives stops telling device (NotPlayed number) lines lines_after log log_after
+StopsRun gives ended stops telling device Sink lines lines_after log log_after = StopsAtSink gives ended stops telling device lines lines_after log log_after
+StopsRun gives ended stops telling device OutOfMemory lines lines_after log log_after = ⊥

@@ -168,7 +168,7 @@ pub fn run<D: Die + Drop, C: Scheme + Drop, F: Device<CountDie<D>, C>, L: Lines,
 ) -> Result<(), Stop>
     requires { (F.device ftl.old).numbers.geometry.sector_bytes ≤ 512 }
     ensures done { OnOk result (Runs L.gives L.ended telling (F.device ftl.old) lines.old lines.new (O.log out.old) (O.log out.new)) }
-    ensures stops { IfErr result (λ why. StopsRun L.gives L.stops telling (F.device ftl.old) why lines.old lines.new (O.log out.old) (O.log out.new)) }
+    ensures stops { IfErr result (λ why. StopsRun L.gives L.ended L.stops telling (F.device ftl.old) why lines.old lines.new (O.log out.old) (O.log out.new)) }
 {
     let mut score = first_score(ftl);
     if give_last(out, RUN_HEAD).is_err() {

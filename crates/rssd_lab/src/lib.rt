@@ -14,6 +14,6 @@ pub use laboratory::run;
 pub use on_die::run_on;
 pub use pace::{Pace, Paced};
 pub use score::Score;
-pub use status::{Status, Stop};
+pub use status::{Outcome, Status, Stop};
 pub use telling::Telling;
 pub use top::lab;

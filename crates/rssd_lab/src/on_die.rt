@@ -62,7 +62,7 @@ fn run_with<C: Scheme + Drop, F: Device<CountDie<MemDie>, C>, L: Lines, O: Sink>
     requires within { is_within_limits head.now ≡ true }
     requires scheme { C.meaning scheme ≡ meaning_named head.now.scheme }
     ensures done { OnOk result (RunsBlank L.gives L.ended telling head.now lines.old lines.new (O.log out.old) (O.log out.new)) }
-    ensures stops { IfErr result (λ why. StopsBlank L.gives L.stops telling head.now why lines.old lines.new (O.log out.old) (O.log out.new)) }
+    ensures stops { IfErr result (λ why. StopsBlank L.gives L.ended L.stops telling head.now why lines.old lines.new (O.log out.old) (O.log out.new)) }
 {
     match mount::<C, F>(alloc, head, scheme) {
         Ok(mut ftl) => run(alloc, &mut ftl, telling, lines, out),
@@ -82,7 +82,7 @@ fn run_made<C: Scheme + Drop, L: Lines, O: Sink>(
     requires within { is_within_limits head.now ≡ true }
     requires scheme { IfOk made (λ scheme. C.meaning scheme ≡ meaning_named head.now.scheme) }
     ensures done { OnOk result (RunsBlank L.gives L.ended telling head.now lines.old lines.new (O.log out.old) (O.log out.new)) }
-    ensures stops { IfErr result (λ why. StopsBlank L.gives L.stops telling head.now why lines.old lines.new (O.log out.old) (O.log out.new)) }
+    ensures stops { IfErr result (λ why. StopsBlank L.gives L.ended L.stops telling head.now why lines.old lines.new (O.log out.old) (O.log out.new)) }
 {
     match made {
         Ok(scheme) => {
@@ -108,7 +108,7 @@ pub fn run_on<L: Lines, O: Sink>(
 ) -> Result<(), Stop>
     requires { is_within_limits head.now ≡ true }
     ensures done { OnOk result (RunsBlank L.gives L.ended telling head.now lines.old lines.new (O.log out.old) (O.log out.new)) }
-    ensures stops { IfErr result (λ why. StopsBlank L.gives L.stops telling head.now why lines.old lines.new (O.log out.old) (O.log out.new)) }
+    ensures stops { IfErr result (λ why. StopsBlank L.gives L.ended L.stops telling head.now why lines.old lines.new (O.log out.old) (O.log out.new)) }
 {
     match head.scheme {
         SchemeName::Plain16 => run_made(alloc, head, telling, plains(alloc, 16), lines, out),

@@ -34,6 +34,13 @@ impl<L: Lines + Drop, P: Pace> Paced<L, P> {
             came: 0,
         }
     }
+
+    /// The lines themselves.
+    pub fn into_inner(self) -> L
+        ensures { result ≡ inner_of self }
+    {
+        self.inner
+    }
 }
 
 impl<L: Lines + Drop, P: Pace> Lines for Paced<L, P> {

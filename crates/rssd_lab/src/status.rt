@@ -17,6 +17,18 @@ pub enum Status {
     OutOfMemory = 7,
 }
 
+impl Status {
+    ghost use Rattle.std.specs.Prelude.{◌≡◌};
+    ghost use Rattle.rssd_lab.specs.Top.{number_of};
+
+    /// What the program ends with.
+    pub fn number(self) -> u8
+        ensures { result ≡ number_of self }
+    {
+        self as u8
+    }
+}
+
 /// Why not all lines were played.
 #[derive(Clone, Copy, Debug, PartialEq, Eq)]
 pub enum Stop {
@@ -28,4 +40,12 @@ pub enum Stop {
     Sink,
     /// There was no memory for the die, the scheme or the device.
     OutOfMemory,
+}
+
+/// How a call ended, and its input back, so that what was taken of it can be told.
+#[derive(Drop)]
+pub struct Outcome<I: Drop> {
+    /// The number of the status.
+    pub status: u8,
+    pub input: I,
 }

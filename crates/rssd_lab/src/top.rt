@@ -1,12 +1,18 @@
 //! The top call: words and lines to tables and a status.
-ghost use Rattle.std.specs.Prelude.{◌≡◌, ◌≤◌, ◌<◌, ◌++◌, ◌∷◌, [], true, codes, decimal};
+ghost use Rattle.std.specs.Prelude.{◌≡◌, ◌≤◌, ◌<◌, ◌^◌, ◌++◌, ◌∷◌, [], ℕ, true, codes, decimal, map, string_bytes};
 ghost use Rattle.die_image.specs.Image.{is_within_limits};
+ghost use Rattle.die_image.specs.Schemes.{row_of};
+ghost use Rattle.lab_lines.specs.Drawing.{plan_of as drawn_for, state_of, left_of};
 ghost use Rattle.lab_words.specs.Orders.{IsWithin};
-ghost use Rattle.rssd_lab.specs.Top.{bad_line, GivesLine, SaysEnd, SaysStopped, IsTold};
+ghost use Rattle.rssd_run.specs.Statuses.{input as taken_of, output as given_to};
+ghost use Rattle.rssd_lab.specs.declared.status.Status.{Status as How};
+ghost use Rattle.rssd_lab.specs.Top.{bad_line, number_of, GivesLine, SaysEnd, SaysStopped, IsTold};
+ghost use Rattle.rssd_lab.specs.Listed.{RunEnds};
+ghost use Rattle.rssd_lab.specs.Ends.{Call, Says, SaysOf, SaysPlay, SaysDraw};
 
 use crate::on_die::run_on;
 use crate::pace::{Pace, Paced};
-use crate::status::{Status, Stop};
+use crate::status::{Outcome, Status, Stop};
 use crate::telling::Telling;
 use arrayvec::ArrayVec;
 use die_image::ImageHead;
@@ -89,25 +95,66 @@ fn telling_of(asked: &Asked) -> Telling
     }
 }
 
-/// Plays lines as an order wants them.
-fn play_lines<L: Lines + Drop, O: Sink>(
+/// Plays lines on a blank die of a head.
+fn play_lines<L: Lines, O: Sink>(
     alloc: Global,
-    asked: &Asked,
-    mut lines: L,
+    head: &ImageHead,
+    telling: Telling,
+    lines: &mut L,
     out: &mut O,
 ) -> Status
-    requires within { is_within_limits asked.now.head ≡ true }
-    requires some { 1 ≤ asked.now.every }
+    requires { is_within_limits head.now ≡ true }
+    ensures { RunEnds L.gives L.ended L.stops telling head.now lines.old lines.new (O.log out.old) (O.log out.new) result }
 {
-    match run_on(alloc, &asked.head, telling_of(asked), &mut lines, out) {
+    match run_on(alloc, head, telling, lines, out) {
         Ok(()) => Status::Done,
         Err(why) => stopped(why, out),
     }
 }
 
+/// Plays the lines of the input, which comes back.
+fn play_input<I: Source + Drop, O: Sink, P: Pace>(
+    alloc: Global,
+    head: &ImageHead,
+    telling: Telling,
+    input: I,
+    out: &mut O,
+    pace: Option<P>,
+) -> (Status, I)
+    requires { is_within_limits head.now ≡ true }
+    ensures { SaysPlay telling head.now (taken_of (I.log input) (I.log result.1)) (given_to (O.log out.old) (O.log out.new)) result.0 }
+{
+    match Stream::new(alloc, input) {
+        Ok(stream) => {
+            let mut lines = Paced::new(stream, pace);
+            let status = play_lines(alloc, head, telling, &mut lines, out);
+            (status, lines.into_inner().into_source())
+        }
+        Err(input) => (Status::OutOfMemory, input),
+    }
+}
+
+/// Plays lines that are drawn.
+fn play_drawn<O: Sink, P: Pace>(
+    alloc: Global,
+    head: &ImageHead,
+    telling: Telling,
+    drawn: Drawn,
+    out: &mut O,
+    pace: Option<P>,
+) -> Status
+    requires { is_within_limits head.now ≡ true }
+    ensures { (seed : ℕ) → state_of drawn ≡ record { words = seed; turn = 0 } → left_of drawn < 2 ^ 64
+        → SaysDraw telling head.now (drawn_for drawn) seed (left_of drawn) (given_to (O.log out.old) (O.log out.new)) result }
+{
+    let mut lines = Paced::new(drawn, pace);
+    play_lines(alloc, head, telling, &mut lines, out)
+}
+
 /// What lines are drawn for: this kind of workload on a head's device.
 fn plan_of(head: &ImageHead, kind: Kind, idle: u32) -> Plan
     requires { is_within_limits head.now ≡ true }
+    ensures is { result ≡ record { kind = kind; sectors = head.now.sectors; sector_bytes = (row_of head.now.scheme).sector_bytes; idle = idle } }
     ensures sectors { 0 < result.sectors }
     ensures few_bytes { result.sector_bytes ≤ 512 }
 {
@@ -120,29 +167,31 @@ fn plan_of(head: &ImageHead, kind: Kind, idle: u32) -> Plan
     }
 }
 
-/// Plays what was asked for.
-fn answer<I: Source + Drop, O: Sink, P: Pace>(
+/// Answers an order, and gives the input back.
+fn answer_order<I: Source + Drop, O: Sink, P: Pace>(
     alloc: Global,
     asked: &Asked,
     input: I,
     out: &mut O,
     pace: Option<P>,
-) -> Status
+) -> (Status, I)
     requires { IsWithin asked.now }
+    ensures { SaysOf asked.now (taken_of (I.log input) (I.log result.1)) (given_to (O.log out.old) (O.log out.new)) result.0 }
 {
+    let telling = telling_of(asked);
     match asked.from {
-        LinesFrom::Stream => match Stream::new(alloc, input) {
-            Ok(lines) => play_lines(alloc, asked, Paced::new(lines, pace), out),
-            Err(_) => Status::OutOfMemory,
-        },
+        LinesFrom::Stream => play_input(alloc, &asked.head, telling, input, out, pace),
         LinesFrom::Drawn {
             kind,
             seed,
             count,
             idle,
         } => match Drawn::new(alloc, plan_of(&asked.head, kind, idle), seed, count) {
-            Ok(lines) => play_lines(alloc, asked, Paced::new(lines, pace), out),
-            Err(_) => Status::OutOfMemory,
+            Ok(drawn) => {
+                let status = play_drawn(alloc, &asked.head, telling, drawn, out, pace);
+                (status, input)
+            }
+            Err(_) => (Status::OutOfMemory, input),
         },
     }
 }
@@ -152,6 +201,26 @@ fn pace_of<P: Pace>(asked: &Asked, pace: P) -> Option<P> {
     match asked.voice {
         Voice::Progress => Some(pace),
         Voice::Loud | Voice::Quiet => None,
+    }
+}
+
+/// Answers words, says how it ended, and gives the input back.
+fn answer<I: Source + Drop, O: Sink, P: Pace>(
+    alloc: Global,
+    words: &[String],
+    input: I,
+    out: &mut O,
+    pace: P,
+) -> (Status, I)
+    ensures { Says (record {
+      words = map string_bytes words.now;
+      input = taken_of (I.log input) (I.log result.1);
+      out = given_to (O.log out.old) (O.log out.new);
+    }) result.0 }
+{
+    match read_words(words) {
+        Some(asked) => answer_order(alloc, &asked, input, out, pace_of(&asked, pace)),
+        None => (refuse_words(out), input),
     }
 }
 
@@ -165,16 +234,23 @@ fn pace_of<P: Pace>(asked: &Asked, pace: P) -> Option<P> {
 ///
 /// The status is 0 where all lines were played and told; 2 where the words are no order; 3 where a line is outside the grammar, or
 /// is one of `cut`, `failread`, `mount` and `stat`; 5 where the input failed; 6 where the sink did; 7 for want of memory. Before 2
-/// and 3 one line to `out` says so.
+/// and 3 one line to `out` says so. The input comes back: where the words are no order, or lines are drawn, it was not called.
 pub fn lab<I: Source + Drop, O: Sink, P: Pace>(
     alloc: Global,
     words: &[String],
     input: I,
     out: &mut O,
     pace: P,
-) -> u8 {
-    match read_words(words) {
-        Some(asked) => answer(alloc, &asked, input, out, pace_of(&asked, pace)) as u8,
-        None => refuse_words(out) as u8,
+) -> Outcome<I>
+    ensures { let call : Call = record {
+      words = map string_bytes words.now;
+      input = taken_of (I.log input) (I.log result.input);
+      out = given_to (O.log out.old) (O.log out.new);
+    } in (status : How) × (result.status ≡ number_of status) × Says call status }
+{
+    let (status, input) = answer(alloc, words, input, out, pace);
+    Outcome {
+        status: status.number(),
+        input,
     }
 }

@@ -1,5 +1,5 @@
 -- The script of the text has its one line.
-use Rattle.std.proofs.Common.{List, [], ◌∷◌, ◌++◌, ◌≡◌, subst, rules}
+use Rattle.std.proofs.Common.{List, [], ◌≡◌, subst, rules}
 use Rattle.rssd_script.specs.declared.lines.Line.{Line}
 use Rattle.rssd_script.specs.Scripts.{Reads}
 use Rattle.lab_stream.proofs.TextLines.{some_line, only_line}

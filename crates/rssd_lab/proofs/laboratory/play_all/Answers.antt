@@ -1,10 +1,9 @@
 -- A line more is a step more, and what is told of it comes behind the rest.
-use Rattle.std.proofs.Common.{◌≡◌, ℕ, ◌+◌, List, [], ◌∷◌, ◌++◌, length, refl, ap, sym, ◌∙◌, subst, arith, append-nil, length-append}
+use Rattle.std.proofs.Common.{ℕ, ◌+◌, [], ◌∷◌, ◌++◌, refl, ap, sym, ◌∙◌, subst, append-nil, length-append}
 use Rattle.rssd_io.proofs.Logs.{came_behind}
-use Rattle.rssd_core.specs.DeviceValue.{Numbers, DeviceValue}
+use Rattle.rssd_core.specs.DeviceValue.{Numbers}
 use Rattle.rssd_run.specs.Played.{Plays}
-use Rattle.lab_tables.proofs.Failing.{failed_later}
-use Rattle.rssd_lab.specs.Runs.{Answered, At, PlaysLine, handed, told_for, state_at}
+use Rattle.rssd_lab.specs.Runs.{Answered, PlaysLine, handed, told_for, state_at}
 use Rattle.rssd_lab.proofs.Chains.{chain_none, chain_more}
 use Rattle.rssd_lab.proofs.Told.{at_err, at_ok}
 use Rattle.rssd_lab.proofs.laboratory.play_all.Goals as goal
@@ -24,8 +23,18 @@ loop-init g c = record {
 pub returns-then-is_err-clause-stops : goal.returns-then-is_err-clause-stops
 returns-then-is_err-clause-stops g c =
     let log = g.O.Sink.log in
-    let grew = c.loop.invariant.grew in
-    failed_later (log c.args.out.now) (log c.loop.out) (log c.tell.new.out) grew.0 grew.1 (at_err c.tell.result _ (sym c.is_err.ensures.value ∙ c.if-is_err.true) c.tell.ensures.fault)
+    let device = g.F.Device.device in
+    let so = c.loop.invariant in
+    record {
+      answered = so.plays.0;
+      last = state_at c.loop.lines (device c.loop.ftl) c.loop.score (log c.loop.out);
+      plays = so.plays.2;
+      line = c.in-Ok-Some.line;
+      reply = c.in-Some.reply;
+      given = rw c.in-Ok-Some.field-0-is at c.in-Ok-Some.ensures;
+      played = subst (λ (d : Numbers). Plays d c.in-Ok-Some.line c.in-Some.reply (device c.loop.ftl) (device c.step.new.ftl)) so.numbers c.in-Some.ensures.plays;
+      failed = at_err c.tell.result _ (sym c.is_err.ensures.value ∙ c.if-is_err.true) c.tell.ensures.fault;
+    }
 
 pub loop-preserved : goal.loop-preserved
 loop-preserved g c =

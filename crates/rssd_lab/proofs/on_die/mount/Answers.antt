@@ -1,6 +1,5 @@
 -- The die is blank, so it is refused only for want of memory.
-use Rattle.std.proofs.Common.{◌≡◌, subst, sym}
-use Rattle.cell_die.specs.DieState.{DieState}
+use Rattle.std.proofs.Common.{subst, sym}
 use Rattle.mem_die.specs.declared.mem.MemDie.{MemDie}
 use Rattle.mem_die.specs.MemState.{mem_state, mem_shaped, IsNew}
 use Rattle.die_image.specs.Image.{shape_of}

@@ -7,7 +7,7 @@ use Rattle.rssd_lab.proofs.on_die.run_with.Goals as goal
 
 pub returns-in-Ok-clause-stops : goal.returns-in-Ok-clause-stops
 returns-in-Ok-clause-stops g c =
-    stops_blank g.L.Lines.gives g.L.Lines.stops c.args.telling (g.F.Device.device c.in-Ok.ftl) c.run.result c.args.head.now c.in-Ok.ensures.mounted
+    stops_blank g.L.Lines.gives g.L.Lines.ended g.L.Lines.stops c.args.telling (g.F.Device.device c.in-Ok.ftl) c.run.result c.args.head.now c.in-Ok.ensures.mounted
     c.args.lines.now c.run.new.lines (g.O.Sink.log c.args.out.now) (g.O.Sink.log c.run.new.out) c.run.ensures.stops
 
 pub run-requires : goal.run-requires

@@ -1,9 +1,9 @@
 -- The part is the first bytes of those ahead.
-use Rattle.std.proofs.Common.{◌≡◌, inl, inr, ℕ, ◌+◌, ◌-◌, ◌<◌, ◌≤◌, List, [], ◌++◌, length, take, drop, refl, ap, sym, ◌∙◌, subst, arith, length-append, true≢false}
+use Rattle.std.proofs.Common.{◌≡◌, inl, inr, ℕ, ◌+◌, ◌-◌, ◌<◌, ◌≤◌, List, ◌++◌, length, take, drop, refl, ap, sym, ◌∙◌, arith, length-append, true≢false}
 use Rattle.std.specs.Prelude.{slice_range}
 use Rattle.std.proofs.lemmas.Bool.{cases_lt}
-use Rattle.lab_stream.specs.Texts.{ReadsNone}
-use Rattle.lab_stream.proofs.Parts.{front_of, parts_of, length_of_range, too_long, whole_now}
+use Rattle.lab_stream.proofs.Parts.{front_of, parts_of, length_of_range, long_text, whole_now}
+use Rattle.lab_stream.proofs.TextLines.{long_none}
 use Rattle.lab_stream.proofs.stream.Stream.add.Goals as goal
 
 pub returns-in-Ok-clause-moves : goal.returns-in-Ok-clause-moves
@@ -47,6 +47,7 @@ returns-in-Err-clause-too_long g c =
     let part : given ≡ take n (slice_range piece self.at self.end) = ap (λ (bytes : List ℕ). slice_range bytes self.at (self.at + n)) c.deref.ensures.value ∙ sym front in
     let over : 1049 < length text + length given = elim (cases_lt 1049 (length text + length given)) [ inl h ↦ h | inr h ↦ absurd (true≢false (sym (c.in-Err.ensures.variant.1 h))) ] in
     let over_text : 1049 < length (text ++ take n (slice_range piece self.at self.end)) = omega (arith, over, length-append text (take n (slice_range piece self.at self.end)), ap length part) in
+    let is_text = long_text text (slice_range piece self.at self.end) n c.part-count.result.1 c.requires c.part-count.ensures.ends c.part-count.ensures.within over_text in
     record {
       long = text ++ take n (slice_range piece self.at self.end);
       moves = record {
@@ -56,5 +57,7 @@ returns-in-Err-clause-too_long g c =
         source = refl;
         lines = refl;
       };
-      none = too_long text (slice_range piece self.at self.end) n c.part-count.result.1 c.requires c.part-count.ensures.ends c.part-count.ensures.within over_text;
+      is_text = is_text;
+      is_long = over_text;
+      none = long_none (text ++ take n (slice_range piece self.at self.end)) is_text over_text;
     }

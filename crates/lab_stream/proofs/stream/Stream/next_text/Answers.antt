@@ -1,9 +1,8 @@
 -- Each turn the text gets what the piece has of it, and then the next piece comes.
-use Rattle.std.proofs.Common.{◌≡◌, inr, ℕ, ◌+◌, ◌<◌, ◌≤◌, Bool, true, false, List, [], ◌++◌, length, sym, ap, ◌∙◌, subst, arith, length-append}
-use Rattle.rssd_script.specs.Reading.{Lacks}
+use Rattle.std.proofs.Common.{◌≡◌, inr, ◌+◌, ◌<◌, ◌≤◌, Bool, length, sym, ap, ◌∙◌, subst, arith, length-append}
 use Rattle.lab_lines.specs.declared.lines.LinesEnd.{LinesEnd}
-use Rattle.lab_stream.specs.Streaming.{ahead_of, IsWhole, TakesPiece, TakesText, StopsStream}
-use Rattle.lab_stream.proofs.Takes.{takes_part, takes_piece, at_end, failed_later}
+use Rattle.lab_stream.specs.Streaming.{ahead_of, IsWhole, TakesPiece, StopsStream}
+use Rattle.lab_stream.proofs.Takes.{takes_part, takes_piece, ends_input, failed_later}
 use Rattle.lab_stream.proofs.stream.Stream.next_text.Goals as goal
 
 pub loop-why-smaller : goal.loop-why-smaller
@@ -41,7 +40,8 @@ returns-in-Ok-false-take-clause-has g c =
     let log = g.S.Source.log in
     let front = subst (λ (whole : Bool). IsWhole whole c.add.new.text.items c.add.new.self) c.in-Ok-false.field-0-test c.in-Ok-false.ensures.whole in
     let piece = subst (λ (some : Bool). TakesPiece log c.add.new.self some c.take.new.self) c.in-Ok-false-take.field-0-test c.in-Ok-false-take.ensures.takes in
-    inr (front.0, c.in-Ok-false-take.ensures.takes.has_none c.in-Ok-false-take.field-0-test, at_end log c.add.new.self c.take.new.self piece)
+    let part = takes_part log c.args.self.now c.loop-why.self c.add.new.self c.loop-why.text.items c.add.new.text.items c.loop-why.invariant.takes c.in-Ok-false.ensures.moves in
+    inr (ends_input log c.args.self.now c.add.new.self c.take.new.self c.add.new.text.items part front.0 piece)
 
 pub returns-in-Err-take-clause-stops : goal.returns-in-Err-take-clause-stops
 returns-in-Err-take-clause-stops g c =

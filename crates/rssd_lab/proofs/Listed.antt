@@ -1,0 +1,274 @@
+-- A run of any supply of lines is a run of the list of those that came of it.
+use Rattle.std.proofs.Common.{◌≡◌, ◌⊎◌, inl, inr, ℕ, ◌+◌, ◌-◌, ◌^◌, ◌≤◌, List, [], ◌∷◌, ◌++◌, length, refl, ap, sym, ◌∙◌, subst, arith}
+use Rattle.std.specs.Prelude.{min}
+use Rattle.cell_die.specs.Counts.{raised}
+use Rattle.count_die.specs.declared.tally.Totals.{Totals}
+use Rattle.die_image.specs.declared.head.ImageHead.{ImageHead}
+use Rattle.rssd_core.specs.DeviceValue.{Numbers, DeviceValue}
+use Rattle.rssd_io.specs.Event.{Event}
+use Rattle.rssd_script.specs.declared.lines.Line.{Line}
+use Rattle.rssd_script.specs.declared.replies.Reply.{Reply}
+use Rattle.rssd_script.specs.declared.replies.Reply.TheVariants.{First, Second, Declined, Bytes, Done, Moves}
+use Rattle.rssd_run.specs.Played.{IsPlayed}
+use Rattle.lab_lines.specs.declared.lines.LinesEnd.{LinesEnd}
+use Rattle.lab_lines.specs.Given.{AllGiven}
+use Rattle.lab_tables.specs.declared.answers.Answers.{Answers}
+use Rattle.lab_tables.specs.Answered.{answered_more}
+use Rattle.rssd_lab.specs.declared.telling.Telling.{Telling}
+use Rattle.rssd_lab.specs.declared.status.Stop.TheVariants.{Lines, NotPlayed, Sink}
+use Rattle.rssd_lab.specs.Chain.{Chain}
+use Rattle.rssd_lab.specs.Runs.{Answered, At, PlaysLines, StopsAtSink, state_at}
+use Rattle.rssd_lab.specs.Blank.{IsBlankDevice, RunsBlank, StopsBlank}
+use Rattle.rssd_lab.specs.Listed.{NextOf, PlaysList, StopsList}
+
+-- the lines that were answered, and more behind them
+abbrev lines_and : List Answered → List Line → List Line
+lines_and [] more = more
+lines_and (answered ∷ rest) more = answered.line ∷ lines_and rest more
+
+length_lines : (answered : List Answered) → length (lines_and answered []) ≡ length answered
+length_lines [] = refl
+length_lines (first ∷ rest) = omega (arith, length_lines rest)
+
+lines_behind : (answered : List Answered) (more : List Line) → lines_and answered more ≡ lines_and answered [] ++ more
+lines_behind [] more = refl
+lines_behind (first ∷ rest) more = ap (λ (lines : List Line). first.line ∷ lines) (lines_behind rest more)
+
+lines_more : (before now : Totals) (a : Answers) (reply : Reply) → (answered_more before now a reply).lines ≡ raised a.lines
+lines_more before now a First = refl
+lines_more before now a Second = refl
+lines_more before now a Declined = refl
+lines_more before now a (Bytes bytes) = refl
+lines_more before now a Done = refl
+lines_more before now a (Moves n) = refl
+lines_more before now a _ = refl
+
+module _ {L : Type 0} (gives : L → Line → L → Type 0) (d : Numbers) (telling : Telling) where
+  listed : (old new : At L) (answered : List Answered) (more : List Line) → PlaysLines gives d telling old answered new
+      → PlaysLines NextOf d telling (state_at (lines_and answered more) old.device old.score old.log) answered (state_at more new.device new.score new.log)
+  unfolding Chain
+  listed old new [] more same = ap (λ (s : At L). state_at more s.device s.score s.log) same
+  listed old new (first ∷ rest) more chain = (
+    state_at (lines_and rest more) chain.0.device chain.0.score chain.0.log,
+    record { given = refl; plays = chain.1.plays; counted = chain.1.counted; answers = chain.1.answers; told = chain.1.told },
+    listed chain.0 new rest more chain.2,
+  )
+
+  came : (old new : At L) (answered : List Answered) (more : List Line) (after : L) → PlaysLines gives d telling old answered new → AllGiven gives new.lines more after → AllGiven gives old.lines (lines_and answered more) after
+  unfolding Chain AllGiven
+  came old new [] more after same given = subst (λ (s : At L). AllGiven gives s.lines more after) same given
+  came old new (first ∷ rest) more after chain given = (chain.0.lines, chain.1.given, came chain.0 new rest more after chain.2 given)
+
+  none_more : (old : L) → AllGiven gives old [] old
+  unfolding AllGiven
+  none_more old = refl
+
+  one_more : (old new : L) (line : Line) → gives old line new → AllGiven gives old (line ∷ []) new
+  unfolding AllGiven
+  one_more old new line given = (new, given, refl)
+
+  counted : (old new : At L) (answered : List Answered) → old.score.answers.lines ≤ 2 ^ 64 - 1 → PlaysLines gives d telling old answered new
+      → new.score.answers.lines ≡ min (old.score.answers.lines + length answered) (2 ^ 64 - 1)
+  unfolding Chain
+  counted old new [] few same = omega (arith, ap (λ (s : At L). s.score.answers.lines) same)
+  counted old new (first ∷ rest) few chain =
+      let one : chain.0.score.answers.lines ≡ raised old.score.answers.lines =
+      ap (λ (a : Answers). a.lines) chain.1.answers ∙ lines_more old.score.totals chain.0.score.totals old.score.answers first.reply in
+      omega (arith, one, counted chain.0 new rest (omega (arith, one)) chain.2)
+
+-- all lines of a supply came, and were played and told
+pub record AllListed {L : Type 0} (gives : L → Line → L → Type 0) (ended : L → L → Type 0) (telling : Telling) (head : ImageHead) (lines lines_after : L) (log log_after : List Event) : Type 0 where
+  pub listed : List Line
+  pub last : L
+  pub given : AllGiven gives lines listed last
+  pub ends : ended last lines_after ⊎ ((length listed ≡ 2 ^ 64 - 1) × (lines_after ≡ last))
+  pub plays : PlaysList telling head listed log log_after
+
+-- the same up to where none came
+pub record ListedUpTo {L : Type 0} (gives : L → Line → L → Type 0) (stops : L → LinesEnd → L → Type 0) (telling : Telling) (head : ImageHead) (why : LinesEnd) (lines lines_after : L) (log log_after : List Event) : Type 0 where
+  pub listed : List Line
+  pub last : L
+  pub given : AllGiven gives lines listed last
+  pub after : stops last why lines_after
+  pub plays : StopsList telling head (Lines why) listed log log_after
+
+-- the same up to one that no device plays
+pub record ListedUnplayed {L : Type 0} (gives : L → Line → L → Type 0) (telling : Telling) (head : ImageHead) (number : ℕ) (lines lines_after : L) (log log_after : List Event) : Type 0 where
+  pub listed : List Line
+  pub other : Line
+  pub given : AllGiven gives lines (listed ++ other ∷ []) lines_after
+  pub unplayed : ¬ IsPlayed other
+  pub number_is : number ≡ raised (length listed)
+  pub plays : StopsList telling head (NotPlayed number) (listed ++ other ∷ []) log log_after
+
+-- the same up to where a call of the sink failed
+pub record ListedUntold {L : Type 0} (gives : L → Line → L → Type 0) (ended : L → L → Type 0) (telling : Telling) (head : ImageHead) (lines lines_after : L) (log log_after : List Event) : Type 0 where
+  pub listed : List Line
+  pub last : L
+  pub given : AllGiven gives lines listed last
+  pub ends : (lines_after ≡ last) ⊎ ended last lines_after
+  pub plays : StopsList telling head Sink listed log log_after
+
+module _ {L : Type 0} (gives : L → Line → L → Type 0) (ended : L → L → Type 0) (stops : L → LinesEnd → L → Type 0) (telling : Telling) (head : ImageHead) (lines lines_after : L) (log log_after : List Event) where
+  pub all_listed : RunsBlank gives ended telling head lines lines_after log log_after → AllListed gives ended telling head lines lines_after log log_after
+  all_listed run =
+      let device : DeviceValue = run.0 in
+      let runs = run.2 in
+      let plays = runs.plays in
+      let last : At L = record runs.last { lines = plays.last } in
+      let start : At L = state_at lines device runs.score _ in
+      record {
+        listed = lines_and plays.answered [];
+        last = plays.last;
+        given = came gives device.numbers telling start last plays.answered [] plays.last plays.plays (none_more gives device.numbers telling plays.last);
+        ends = elim plays.ends [
+          | inl none ↦ inl (subst (λ (l : L). ended plays.last l) runs.lines_last none)
+          | inr many ↦ inr (length_lines plays.answered ∙ many.0, sym runs.lines_last ∙ many.1)
+        ];
+        plays = (
+          device,
+          run.1,
+          record {
+            score = runs.score;
+            first = runs.first;
+            last = state_at [] runs.last.device runs.last.score runs.last.log;
+            plays = record { answered = plays.answered; last = []; plays = listed gives device.numbers telling start last plays.answered [] plays.plays; ends = inl (refl, refl) };
+            lines_last = refl;
+            tells = runs.tells;
+          },
+        );
+      }
+
+  pub listed_up_to : (why : LinesEnd) → StopsBlank gives ended stops telling head (Lines why) lines lines_after log log_after → ListedUpTo gives stops telling head why lines lines_after log log_after
+  listed_up_to why run =
+      let device : DeviceValue = run.0 in
+      let runs = run.2 in
+      let plays = runs.plays in
+      let last : At L = record runs.last { lines = plays.last } in
+      let start : At L = state_at lines device runs.score _ in
+      record {
+        listed = lines_and plays.answered [];
+        last = plays.last;
+        given = came gives device.numbers telling start last plays.answered [] plays.last plays.plays (none_more gives device.numbers telling plays.last);
+        after = subst (λ (l : L). stops plays.last why l) runs.lines_last plays.after;
+        plays = (
+          device,
+          run.1,
+          record {
+            score = runs.score;
+            first = runs.first;
+            last = state_at [] runs.last.device runs.last.score runs.last.log;
+            plays = record { answered = plays.answered; last = []; plays = listed gives device.numbers telling start last plays.answered [] plays.plays; after = (refl, refl) };
+            lines_last = refl;
+            log_last = runs.log_last;
+          },
+        );
+      }
+
+  pub listed_unplayed : (number : ℕ) → StopsBlank gives ended stops telling head (NotPlayed number) lines lines_after log log_after → ListedUnplayed gives telling head number lines lines_after log log_after
+  listed_unplayed number run =
+      let device : DeviceValue = run.0 in
+      let runs = run.2 in
+      let plays = runs.plays.0 in
+      let other : Line = plays.after.0 in
+      let last : At L = record runs.last { lines = plays.last } in
+      let start : At L = state_at lines device runs.score _ in
+      let behind = lines_behind plays.answered (other ∷ []) in
+      let many = counted gives device.numbers telling start last plays.answered (omega (arith, ap (λ (a : Answers). a.lines) runs.first.answers)) plays.plays in
+      record {
+        listed = lines_and plays.answered [];
+        other = other;
+        given = subst (λ (l : L). AllGiven gives lines (lines_and plays.answered [] ++ other ∷ []) l) runs.lines_last
+            (subst (λ (all : List Line). AllGiven gives lines all runs.last.lines) behind
+            (came gives device.numbers telling start last plays.answered (other ∷ []) runs.last.lines plays.plays (one_more gives device.numbers telling plays.last runs.last.lines other plays.after.1)));
+        unplayed = plays.after.2;
+        number_is = omega (arith, runs.plays.1, many, ap (λ (a : Answers). a.lines) runs.first.answers, length_lines plays.answered);
+        plays = subst (λ (all : List Line). StopsList telling head (NotPlayed number) all log log_after) behind (
+          device,
+          run.1,
+          record {
+            score = runs.score;
+            first = runs.first;
+            last = state_at [] runs.last.device runs.last.score runs.last.log;
+            plays = (
+              record {
+                answered = plays.answered;
+                last = other ∷ [];
+                plays = listed gives device.numbers telling start last plays.answered (other ∷ []) plays.plays;
+                after = (other, refl, plays.after.2);
+              },
+              runs.plays.1,
+            );
+            lines_last = refl;
+            log_last = runs.log_last;
+          },
+        );
+      }
+
+  untold : (device : DeviceValue) → IsBlankDevice head device → StopsAtSink gives ended stops telling device lines lines_after log log_after → ListedUntold gives ended telling head lines lines_after log log_after
+  untold device blank (inl first) = record {
+    listed = [];
+    last = lines;
+    given = none_more gives device.numbers telling lines;
+    ends = inl first.0;
+    plays = (device, blank, inl (refl, first.1));
+  }
+  untold device blank (inr (inl line)) =
+      let told = line.plays in
+      let start : At L = state_at lines device line.score _ in
+      record {
+        listed = lines_and told.answered (told.line ∷ []);
+        last = lines_after;
+        given = subst (λ (l : L). AllGiven gives lines (lines_and told.answered (told.line ∷ [])) l) line.lines_last
+            (came gives device.numbers telling start told.last told.answered (told.line ∷ []) line.last.lines told.plays (one_more gives device.numbers telling told.last.lines line.last.lines told.line told.given));
+        ends = inl refl;
+        plays = (
+          device,
+          blank,
+          inr (inl (record {
+            score = line.score;
+            first = line.first;
+            last = state_at [] line.last.device line.last.score line.last.log;
+            plays = record {
+              answered = told.answered;
+              last = state_at (told.line ∷ []) told.last.device told.last.score told.last.log;
+              plays = listed gives device.numbers telling start told.last told.answered (told.line ∷ []) told.plays;
+              line = told.line;
+              reply = told.reply;
+              given = refl;
+              played = told.played;
+              failed = told.failed;
+            };
+            lines_last = refl;
+            log_last = line.log_last;
+          })),
+        );
+      }
+  untold device blank (inr (inr end)) =
+      let plays = end.plays in
+      let last : At L = record end.last { lines = plays.last } in
+      let start : At L = state_at lines device end.score _ in
+      record {
+        listed = lines_and plays.answered [];
+        last = plays.last;
+        given = came gives device.numbers telling start last plays.answered [] plays.last plays.plays (none_more gives device.numbers telling plays.last);
+        ends = elim plays.ends [
+          | inl none ↦ inr (subst (λ (l : L). ended plays.last l) end.lines_last none)
+          | inr many ↦ inl (sym end.lines_last ∙ many.1)
+        ];
+        plays = (
+          device,
+          blank,
+          inr (inr (record {
+            score = end.score;
+            first = end.first;
+            last = state_at [] end.last.device end.last.score end.last.log;
+            plays = record { answered = plays.answered; last = []; plays = listed gives device.numbers telling start last plays.answered [] plays.plays; ends = inl (refl, refl) };
+            lines_last = refl;
+            failed = end.failed;
+          })),
+        );
+      }
+
+  pub listed_untold : StopsBlank gives ended stops telling head Sink lines lines_after log log_after → ListedUntold gives ended telling head lines lines_after log log_after
+  listed_untold run = untold run.0 run.1 run.2
