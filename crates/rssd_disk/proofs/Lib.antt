@@ -4,3 +4,5 @@ pub mod Loops
 pub mod Carried
 pub mod Streams
 pub mod Asked
+pub mod Given
+pub mod Handshakes

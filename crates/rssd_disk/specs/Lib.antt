@@ -6,3 +6,4 @@ pub mod Answers
 pub mod Streams
 pub mod Held
 pub mod Sessions
+pub mod Handshakes

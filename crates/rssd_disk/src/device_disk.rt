@@ -21,7 +21,11 @@ pub trait Disk {
     ghost answers: { Self → Self → Asked → List ℕ → List ℕ → Reply → Type 0 };
 
     /// How many bytes there are.
-    fn size(&self) -> u64;
+    ghost byte_count: { Self → ℕ };
+
+    /// How many bytes there are.
+    fn size(&self) -> u64
+        ensures { result ≡ byte_count self.now };
 
     /// Answers a request. `bytes` are those of a write, and afterwards those of a read.
     fn answer(&mut self, alloc: Global, request: &Request, bytes: &mut [u8]) -> Errno
@@ -113,6 +117,8 @@ impl<D: PowerDie + Drop, C: Scheme + Drop, F: Device<D, C>> Disk for DeviceDisk<
     ghost held = { λ s. IsHeld F.device s.mounted s.closed };
 
     ghost answers = { λ old new request before after reply. AnswersHeld D.state C.meaning F.device old.plan old.mounted old.closed new.mounted request before after reply };
+
+    ghost byte_count = { λ s. s.size };
 
     fn size(&self) -> u64 {
         self.size
