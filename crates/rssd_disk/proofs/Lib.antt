@@ -6,3 +6,6 @@ pub mod Streams
 pub mod Asked
 pub mod Given
 pub mod Handshakes
+pub mod Plainly
+pub mod PlainSessions
+pub mod Mounting

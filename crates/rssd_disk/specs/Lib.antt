@@ -7,3 +7,6 @@ pub mod Streams
 pub mod Held
 pub mod Sessions
 pub mod Handshakes
+pub mod PlainServer
+pub mod DeviceBytes
+pub mod DeviceDisks
