@@ -4,3 +4,8 @@ pub mod Loops
 pub mod Carried
 pub mod Streams
 pub mod Asked
+pub mod Given
+pub mod Handshakes
+pub mod Plainly
+pub mod PlainSessions
+pub mod Mounting

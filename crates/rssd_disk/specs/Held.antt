@@ -1,22 +1,58 @@
 -- What a disk over a device holds: a mounted device, or a die with its scheme.
-use Rattle.std.specs.Prelude.{◌≡◌, ℕ, List, Option, None, Some, IsSome, true, false}
-use Rattle.cell_die.specs.Counts.{sum_of}
+use Rattle.std.specs.Prelude.{◌≡◌, ℕ, ◌*◌, List, Option, None, Some, IsSome, true, false}
 use Rattle.cell_die.specs.DieState.{DieState}
 use Rattle.nbd_wire.specs.declared.reply.Errno.{Errno}
 use Rattle.nbd_wire.specs.declared.reply.Errno.TheVariants.{InputOutput}
 use Rattle.nbd_wire.specs.declared.request.Request.{Request}
 use Rattle.striped.specs.Meaning.{Meaning}
 use Rattle.rssd_core.specs.declared.device.Plan.{Plan}
-use Rattle.rssd_core.specs.DeviceValue.{DeviceView, DeviceValue}
+use Rattle.rssd_core.specs.DeviceValue.{Numbers, DeviceValue}
 use Rattle.rssd_core.specs.Mount.{Mounts, numbers_of}
-use Rattle.rssd_disk.specs.declared.device_disk.Tallies.{Tallies}
 use Rattle.rssd_disk.specs.Answers.{Answers}
 use Rattle.rssd_disk.specs.Disk.{IsDisk}
+
+-- the die that a disk holds, mounted or not, and what its scheme makes of cells
+pub record Holding : Type 0 where
+  pub die : DieState
+  pub meaning : Meaning
+
+-- a die that is mounted
+abbrev pub holding_of : DeviceValue → Holding
+holding_of device = record { die = device.view.die; meaning = device.numbers.meaning }
+
+abbrev pub held_by : {D C F : Type 0} → (D → DieState) → (C → Meaning) → (F → DeviceValue) → Option F → Option (D × C) → Option Holding
+held_by state meaning device (Some ftl) closed = Some (holding_of (device ftl))
+held_by state meaning device None (Some held) = Some (record { die = state held.0; meaning = meaning held.1 })
+held_by state meaning device None None = None
+
+-- the numbers of a device that is mounted there
+abbrev pub numbers_held : Plan → Holding → Numbers
+numbers_held plan h = numbers_of h.die.shape h.meaning plan
+
+-- the same cells, and what they mean
+pub record SameHolding (old new : Holding) : Type 0 where
+  pub shape : new.die.shape ≡ old.die.shape
+  pub cells : new.die.cells ≡ old.die.cells
+  pub meaning : new.meaning ≡ old.meaning
+
+abbrev pub SameHeld : Option Holding → Option Holding → Type 0
+SameHeld (Some old) (Some new) = SameHolding old new
+SameHeld _ _ = ⊥
 
 -- a device whose sizes are served is mounted, or a die is there to be mounted
 abbrev pub IsHeld : {F P : Type 0} → (F → DeviceValue) → Option F → Option P → Type 0
 IsHeld device None closed = IsSome closed
 IsHeld device (Some ftl) closed = IsDisk (device ftl).numbers
+
+-- a device has the sizes of its die, its scheme and its plan
+abbrev pub IsPlanned : {F : Type 0} → (F → DeviceValue) → Plan → Option F → Type 0
+IsPlanned device plan (Some ftl) = (device ftl).numbers ≡ numbers_held plan (holding_of (device ftl))
+IsPlanned device plan None = Unit {0}
+
+-- so many bytes are told: those of the plan's sectors
+abbrev pub IsTold : Plan → ℕ → Option Holding → Type 0
+IsTold plan size (Some h) = size ≡ plan.sectors * h.meaning.sector_bytes
+IsTold plan size None = ⊥
 
 -- the device runs
 abbrev pub Runs : {F : Type 0} → (F → DeviceValue) → Option F → Type 0
@@ -53,21 +89,11 @@ pub record AskedOf (Comes : DeviceValue → Type 0) (r : Request) (before after 
   pub answered : Answers device.numbers r before after device new reply
 
 -- where no mount succeeds nothing is asked, and the reply is that the device failed
-abbrev pub AnswersHeld : {D C F : Type 0} → (D → DieState) → (C → Meaning) → (F → DeviceValue) → Plan → Option F → Option (D × C) → Option F → Request → List ℕ → List ℕ → Errno → Type 0
-AnswersHeld state meaning device plan mounted closed None r before after reply = (reply ≡ InputOutput) × (after ≡ before)
-AnswersHeld state meaning device plan mounted closed (Some ftl) r before after reply = AskedOf (ComesFrom state meaning device plan mounted closed) r before after reply (device ftl)
+pub record AsksNone (old new : Option Holding) (before after : List ℕ) (reply : Errno) : Type 0 where
+  pub reply_is : reply ≡ InputOutput
+  pub data_are : after ≡ before
+  pub same : SameHeld old new
 
--- ---- tallies
-
-pub record TalliesOf (view : DeviceView) (tallies : Tallies) : Type 0 where
-  pub first : tallies.counts.first ≡ view.first
-  pub second : tallies.counts.second ≡ view.second
-  pub declined : tallies.counts.declined ≡ view.declined
-  pub moved : tallies.counts.moved ≡ view.moved
-  pub erased : tallies.erased ≡ sum_of view.die.erases
-
--- those of the device, where one is mounted
-abbrev pub IsTallied : {F : Type 0} → (F → DeviceValue) → Option F → Option Tallies → Type 0
-IsTallied device None tallies = tallies ≡ None
-IsTallied device (Some ftl) (Some tallies) = TalliesOf (device ftl).view tallies
-IsTallied device (Some ftl) None = ⊥
+abbrev pub AnswersHeld : {D C F : Type 0} → (D → DieState) → (C → Meaning) → (F → DeviceValue) → Plan → Option F → Option (D × C) → Option F → Option (D × C) → Request → List ℕ → List ℕ → Errno → Type 0
+AnswersHeld state meaning device plan mounted closed None left r before after reply = AsksNone (held_by state meaning device mounted closed) (held_by state meaning device None left) before after reply
+AnswersHeld state meaning device plan mounted closed (Some ftl) left r before after reply = AskedOf (ComesFrom state meaning device plan mounted closed) r before after reply (device ftl)

@@ -5,4 +5,9 @@ pub mod Rules
 pub mod Answers
 pub mod Streams
 pub mod Held
+pub mod Tallied
 pub mod Sessions
+pub mod Handshakes
+pub mod PlainServer
+pub mod DeviceBytes
+pub mod DeviceDisks

@@ -1,8 +1,17 @@
 //! A device as a disk: after a failed change call, which stops the device, it is mounted again before the next request.
-ghost use Rattle.std.specs.Prelude.{◌≡◌, ◌↔◌, ℕ, List, IfOk, IfSome, IsTrue, length};
+ghost use Rattle.std.specs.Prelude.{◌≡◌, ◌↔◌, ℕ, List, IfOk, IfSome, IfNone, IsTrue, length};
 ghost use Rattle.nbd_wire.specs.declared.request.Request.{Request as Asked};
 ghost use Rattle.nbd_wire.specs.declared.reply.Errno.{Errno as Reply};
-ghost use Rattle.rssd_disk.specs.Held.{IsHeld, IsReady, Runs, Gives, ComesFrom, IsTallied};
+ghost use Rattle.rssd_core.specs.Mount.{numbers_of};
+ghost use Rattle.rssd_io.specs.Event.{Event};
+ghost use Rattle.rssd_disk.specs.declared.device_disk.DeviceDisk.{DeviceDisk as Served};
+ghost use Rattle.rssd_disk.specs.declared.serving.Ended.{Ended as End};
+ghost use Rattle.rssd_disk.specs.DeviceBytes.{bytes_of_cells};
+ghost use Rattle.rssd_disk.specs.DeviceDisks.{holding, IsDeviceDisk, DeviceAnswers, disk_bytes, HasSoundCells, sector_bytes_of};
+ghost use Rattle.rssd_disk.specs.Handshakes.{Session};
+ghost use Rattle.rssd_disk.specs.Held.{IsHeld, IsReady, SameHeld, Runs, Gives, ComesFrom};
+ghost use Rattle.rssd_disk.specs.PlainServer.{AnswersPlainly};
+ghost use Rattle.rssd_disk.specs.Tallied.{IsTallied};
 ghost use Rattle.rssd_disk.specs.Rules.{data_length};
 
 use crate::request::{answer_request, size_of};
@@ -21,7 +30,11 @@ pub trait Disk {
     ghost answers: { Self → Self → Asked → List ℕ → List ℕ → Reply → Type 0 };
 
     /// How many bytes there are.
-    fn size(&self) -> u64;
+    ghost byte_count: { Self → ℕ };
+
+    /// How many bytes there are.
+    fn size(&self) -> u64
+        ensures { result ≡ byte_count self.now };
 
     /// Answers a request. `bytes` are those of a write, and afterwards those of a read.
     fn answer(&mut self, alloc: Global, request: &Request, bytes: &mut [u8]) -> Errno
@@ -53,7 +66,8 @@ pub struct DeviceDisk<D: PowerDie + Drop, C: Scheme + Drop, F: Device<D, C>> {
 impl<D: PowerDie + Drop, C: Scheme + Drop, F: Device<D, C>> DeviceDisk<D, C, F> {
     /// A disk on a die that is mounted.
     pub fn start(alloc: Global, die: D, scheme: C, plan: Plan) -> Result<Self, Refused<D, C>>
-        ensures { IfOk result (λ new. IsHeld F.device new.mounted new.closed) }
+        ensures is_disk { IfOk result (λ new. IsDeviceDisk D.state C.meaning F.device new) }
+        ensures bytes { IfOk result (λ new. disk_bytes D.state C.meaning F.device new ≡ bytes_of_cells (numbers_of (D.state die).shape (C.meaning scheme) plan) (D.state die).cells) }
     {
         match F::mount(alloc, die, scheme, plan) {
             Ok(ftl) => {
@@ -87,6 +101,7 @@ impl<D: PowerDie + Drop, C: Scheme + Drop, F: Device<D, C>> DeviceDisk<D, C, F> 
         requires { IsHeld F.device self.old.mounted self.old.closed }
         ensures gives { Gives D.state C.meaning F.device self.old.mounted self.old.closed result }
         ensures plan { self.new.plan ≡ self.old.plan }
+        ensures size { self.new.size ≡ self.old.size }
     {
         match self.mounted.take() {
             Some(ftl) => ftl.close(),
@@ -109,9 +124,12 @@ impl<D: PowerDie + Drop, C: Scheme + Drop, F: Device<D, C>> DeviceDisk<D, C, F> 
 
     /// Mounts the die again where the device does not run.
     fn ready(&mut self, alloc: Global)
-        requires { IsHeld F.device self.old.mounted self.old.closed }
+        requires { IsDeviceDisk D.state C.meaning F.device self.old }
+        ensures plan { self.new.plan ≡ self.old.plan }
+        ensures size { self.new.size ≡ self.old.size }
         ensures ready { IsReady F.device self.new.mounted self.new.closed }
         ensures comes { IfSome self.new.mounted (λ ftl. ComesFrom D.state C.meaning F.device self.old.plan self.old.mounted self.old.closed (F.device ftl)) }
+        ensures stays { IfNone self.new.mounted (SameHeld (holding D.state C.meaning F.device self.old) (holding D.state C.meaning F.device self.new)) }
     {
         if self.runs() {
             return;
@@ -128,11 +146,13 @@ impl<D: PowerDie + Drop, C: Scheme + Drop, F: Device<D, C>> DeviceDisk<D, C, F> 
 }
 
 impl<D: PowerDie + Drop, C: Scheme + Drop, F: Device<D, C>> Disk for DeviceDisk<D, C, F> {
-    ghost use Rattle.rssd_disk.specs.Held.{IsHeld, AnswersHeld};
+    ghost use Rattle.rssd_disk.specs.DeviceDisks.{IsDeviceDisk, DeviceAnswers};
 
-    ghost held = { λ s. IsHeld F.device s.mounted s.closed };
+    ghost held = { IsDeviceDisk D.state C.meaning F.device };
 
-    ghost answers = { λ old new request before after reply. AnswersHeld D.state C.meaning F.device old.plan old.mounted old.closed new.mounted request before after reply };
+    ghost answers = { DeviceAnswers D.state C.meaning F.device };
+
+    ghost byte_count = { λ s. s.size };
 
     fn size(&self) -> u64 {
         self.size
@@ -156,3 +176,14 @@ impl<D: PowerDie + Drop, C: Scheme + Drop, F: Device<D, C>> Disk for DeviceDisk<
         }
     }
 }
+
+/// A session over a device is one over a plain list of bytes, with the same bytes taken and given: each request that is done is
+/// carried out on the bytes that those before it left, one that is refused changes nothing, and where the device failed, from sound
+/// cells, a front of the request's bytes was put.
+pub fn sessions_are_those_of_a_plain_server<D: PowerDie + Drop, C: Scheme + Drop, F: Device<D, C>>()
+    ensures whole { (disk : Served D C F) → IsDeviceDisk D.state C.meaning F.device disk → length (disk_bytes D.state C.meaning F.device disk) ≡ disk.size }
+    ensures plain { (disk last : Served D C F) (ended : End) (from left to given : List Event) → IsDeviceDisk D.state C.meaning F.device disk
+        → Session (DeviceAnswers D.state C.meaning F.device) disk.size ended disk last from left to given
+        → Session (AnswersPlainly (HasSoundCells D.state C.meaning F.device disk) disk.size (sector_bytes_of D.state C.meaning F.device disk)) disk.size ended
+        (disk_bytes D.state C.meaning F.device disk) (disk_bytes D.state C.meaning F.device last) from left to given }
+{}

@@ -17,3 +17,6 @@ pub use device_disk::{DeviceDisk, Disk, Tallies};
 pub use request::answer_request;
 pub use rules::{LONGEST, data_length, refusal};
 pub use serving::{Ended, ROOM, serve};
+
+#[cfg(test)]
+mod tests;

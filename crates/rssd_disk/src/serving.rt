@@ -1,5 +1,6 @@
 //! A session with one client.
 ghost use Rattle.std.specs.Prelude.{◌≡◌, length};
+ghost use Rattle.rssd_disk.specs.Handshakes.{Session};
 
 use crate::device_disk::Disk;
 use crate::handshake::greet;
@@ -35,6 +36,8 @@ pub fn serve<K: Disk, I: Source, O: Sink>(
 ) -> Ended
     requires held { K.held disk.old }
     requires room { length room.old ≡ 1048592 }
+    ensures held { K.held disk.new }
+    ensures session { Session K.answers (K.byte_count disk.old) result disk.old disk.new (I.log from.old) (I.log from.new) (O.log to.old) (O.log to.new) }
 {
     match greet(from, to, room, disk.size()) {
         Ok(()) => answer_all(alloc, disk, from, to, room),

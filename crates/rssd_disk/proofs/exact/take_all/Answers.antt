@@ -1,6 +1,8 @@
 -- Each take fills the front of what is left of the room.
-use Rattle.std.proofs.Common.{◌≡◌, ℕ, List, ◌-◌, length, drop, arith, subst, ◌∙◌}
+use Rattle.std.proofs.Common.{◌≡◌, ℕ, List, [], ◌∷◌, ◌++◌, ◌-◌, length, take, drop, ap, arith, subst, sym, ◌∙◌}
 use Rattle.std.proofs.lemmas.List.{take_all, length-drop, length-take}
+use Rattle.rssd_io.specs.Event.{Event, EndsWith, HasEnded, moved, failed}
+use Rattle.rssd_io.proofs.Logs.{ends_with}
 use Rattle.rssd_disk.specs.Streams.{Takes}
 use Rattle.rssd_disk.proofs.Streams.{takes_none, takes_more}
 use Rattle.rssd_disk.proofs.exact.take_all.Goals as goal
@@ -19,3 +21,12 @@ loop-at-preserved g c =
 
 pub returns-clause-taken : goal.returns-clause-taken
 returns-clause-taken g c = subst (λ (l : List ℕ). Takes (g.I.Source.log c.args.from.now) (g.I.Source.log c.loop-at.from) l) (take_all c.loop-at.at c.loop-at.into (omega arith)) c.loop-at.invariant.took
+
+pub returns-in-Ok-eq0-clause-stopped : goal.returns-in-Ok-eq0-clause-stopped
+returns-in-Ok-eq0-clause-stopped g c =
+    let old : List Event = g.I.Source.log c.loop-at.from in
+    let log : g.I.Source.log c.take.new.self ≡ old ++ moved [] ∷ [] = c.in-Ok-eq0.ensures.log ∙ ap (λ n. old ++ moved (take n c.take.new.into) ∷ []) c.in-Ok-eq0.field-0-test in
+    subst (λ (l : List Event). HasEnded l) (sym log) (ends_with old (moved []))
+
+pub returns-in-Err-clause-stopped : goal.returns-in-Err-clause-stopped
+returns-in-Err-clause-stopped g c = subst (λ (log : List Event). EndsWith failed log) (sym c.in-Err.ensures.log) (ends_with (g.I.Source.log c.loop-at.from) failed)
