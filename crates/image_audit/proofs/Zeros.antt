@@ -1,8 +1,10 @@
 -- Bytes without the zeros at their end.
 use Rattle.std.proofs.Common.{◌≡◌, ◌≢◌, ℕ, ◌+◌, ◌-◌, ◌<◌, ◌≤◌, zero, suc, List, [], ◌∷◌, ◌++◌, length, take, false, refl, ◌∙◌, sym, ap, arith, get_or, inl, inr, eq-eqb}
 use Rattle.std.proofs.lemmas.List.{take_more}
-use Rattle.std.proofs.lemmas.Bool.{ne_eqb, cases_eq}
-use Rattle.std.specs.Prelude.{if◌then◌else◌, ◌&&◌, ◌==◌}
+use Rattle.std.proofs.lemmas.Bool.{ne_eqb, cases_eq, and_parts}
+use Rattle.std.proofs.Math.Seq.{take-add}
+use Rattle.std.specs.Prelude.{if◌then◌else◌, ◌&&◌, ◌==◌, Bool, true, drop}
+use Rattle.cell_bits.specs.Cells.{is_blank}
 use Rattle.image_audit.specs.Held.{is_empty, unless_zeros, without_zeros, IsTrimmed}
 
 -- a zero at the end changes nothing
@@ -17,6 +19,27 @@ zeros_step bytes count some within is_zero =
     ap (λ n. without_zeros (take n bytes)) one
     ∙ (ap without_zeros (take_more bytes (count - 1) 0 within ∙ ap (λ byte. take (count - 1) bytes ++ byte ∷ []) is_zero)
     ∙ zero_at_end (take (count - 1) bytes))
+
+-- of zeros alone nothing stays
+zeros_alone : (zeros : List ℕ) → is_blank zeros ≡ true → without_zeros zeros ≡ []
+zeros_alone [] blank = refl
+zeros_alone (byte ∷ bytes) blank =
+    let parts = and_parts (byte == 0) (is_blank bytes) blank in
+    ap (unless_zeros byte) (zeros_alone bytes parts.1)
+    ∙ ap (λ (test : Bool). if test then [] else byte ∷ []) parts.0
+
+-- zeros at the end change nothing
+zeros_at_end : (bytes zeros : List ℕ) → is_blank zeros ≡ true → without_zeros (bytes ++ zeros) ≡ without_zeros bytes
+zeros_at_end [] zeros blank = zeros_alone zeros blank
+zeros_at_end (byte ∷ bytes) zeros blank = ap (unless_zeros byte) (zeros_at_end bytes zeros blank)
+
+-- a step of zeros from here on goes
+pub zeros_go : (bytes : List ℕ) (count step : ℕ) → step ≤ count → is_blank (take (count - (count - step)) (drop (count - step) bytes)) ≡ true → without_zeros (take count bytes) ≡ without_zeros (take (count - step) bytes)
+zeros_go bytes count step within blank =
+    let parts : count ≡ count - step + (count - (count - step)) = omega arith in
+    ap (λ n. without_zeros (take n bytes)) parts
+    ∙ (ap without_zeros (take-add (count - step) (count - (count - step)) bytes)
+    ∙ zeros_at_end (take (count - step) bytes) (take (count - (count - step)) (drop (count - step) bytes)) blank)
 
 -- bytes that end with one that is not zero stay
 not_empty : (bytes : List ℕ) (last : ℕ) → is_empty (bytes ++ last ∷ []) ≡ false

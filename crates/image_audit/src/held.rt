@@ -60,27 +60,28 @@ fn read_row<C: Scheme>(
 
 /// What a live record tells.
 fn hold_one<C: Scheme>(
+    alloc: Global,
     geometry: &Geometry,
     cells: &[u8],
     scheme: &C,
     mark: &Mark,
     unit: &mut [u8],
     row: &mut [u8],
-) -> Held
+) -> Result<Held, OutOfMemory>
     requires long { HasLength geometry.now cells.now }
     requires sizes { IsServed geometry.now (C.meaning scheme.now) }
     requires place { may_hold geometry.now mark.now.place ≡ true }
     requires unit { length unit.old ≡ geometry.now.span * geometry.now.main_bytes }
     requires row { length row.old ≡ geometry.now.sector_bytes }
     requires fitting { IsFitting geometry.now }
-    ensures told { told_of result ≡ told_by geometry.now (C.meaning scheme.now).decoding (pages_in geometry.now cells.now) mark.now }
+    ensures told { IfOk result (λ held. told_of held ≡ told_by geometry.now (C.meaning scheme.now).decoding (pages_in geometry.now cells.now) mark.now) }
     ensures whole { IsWhole geometry.now (C.meaning scheme.now).decoding (pages_in geometry.now cells.now) mark.now }
 {
     read_row(geometry, cells, scheme, mark, unit, row);
-    Held {
+    Ok(Held {
         sector: mark.header.sector,
-        bytes: RowBytes::trimmed(row),
-    }
+        bytes: RowBytes::trimmed(alloc, row)?,
+    })
 }
 
 /// What live records say of their sectors, in their order.
@@ -104,7 +105,7 @@ pub(crate) fn hold<C: Scheme>(
     let unit: &mut [u8] = &mut unit_room;
     let row: &mut [u8] = &mut row_room;
     for mark in live {
-        held.push(hold_one(geometry, cells, scheme, mark, unit, row))?;
+        held.push(hold_one(alloc, geometry, cells, scheme, mark, unit, row)?)?;
     }
     Ok(held)
 }

@@ -1,25 +1,42 @@
 //! A sector that an audit finds, with its bytes.
-ghost use Rattle.std.specs.Prelude.{◌≡◌, ◌≤◌, take, length};
+ghost use Rattle.std.specs.Prelude.{◌≡◌, ◌≤◌, take, length, IfOk};
 ghost use Rattle.image_audit.specs.Held.{without_zeros, IsTrimmed};
 
-use arrayvec::ArrayVec;
+use crate::OutOfMemory;
+use cell_bits::is_blank;
+use std::alloc::Global;
 use std::marker::Model;
 
 /// At most 512 bytes without zeros at the end, seen as a list.
 #[derive(Debug, Drop)]
 pub struct RowBytes {
-    list: ArrayVec<u8, 512>,
+    list: Vec<u8>,
 }
 
 impl Model for RowBytes {
-    ghost use Rattle.std.specs.Prelude.{ℕ, List};
+    ghost use Rattle.std.specs.Prelude.{ℕ, List, ◌≤◌, length};
     ghost use Rattle.image_audit.specs.Held.{IsTrimmed};
 
     ghost Value = { List ℕ };
 
     ghost view = { λ row. row.list.items };
 
-    ghost invariant = { λ row. IsTrimmed row.list.items };
+    ghost invariant = { λ row. (length row.list.items ≤ 512) × IsTrimmed row.list.items };
+}
+
+/// How many zeros at the end are passed at once.
+const STEP: usize = 32;
+
+/// How many bytes there are before steps of zeros at the end.
+fn length_without_steps(bytes: &[u8]) -> usize
+    ensures within { result ≤ length bytes.now }
+    ensures zeros { without_zeros (take result bytes.now) ≡ without_zeros bytes.now }
+{
+    let mut count = bytes.len();
+    while count >= STEP && is_blank(&bytes[count - STEP..count]) {
+        count -= STEP;
+    }
+    count
 }
 
 /// How many bytes there are before the zeros at the end.
@@ -28,7 +45,7 @@ fn length_without_zeros(bytes: &[u8]) -> usize
     ensures bytes { take result bytes.now ≡ without_zeros bytes.now }
     ensures trimmed { IsTrimmed (without_zeros bytes.now) }
 {
-    let mut count = bytes.len();
+    let mut count = length_without_steps(bytes);
     while count > 0 && bytes[count - 1] == 0 {
         count -= 1;
     }
@@ -37,14 +54,13 @@ fn length_without_zeros(bytes: &[u8]) -> usize
 
 impl RowBytes {
     /// These bytes without the zeros at the end.
-    pub(crate) fn trimmed(bytes: &[u8]) -> RowBytes
+    pub(crate) fn trimmed(alloc: Global, bytes: &[u8]) -> Result<RowBytes, OutOfMemory>
         requires { length bytes.now ≤ 512 }
-        ensures { result ≡ without_zeros bytes.now }
+        ensures { IfOk result (λ row. row ≡ without_zeros bytes.now) }
     {
         let count = length_without_zeros(bytes);
-        let mut list = ArrayVec::new();
-        let _ = list.try_extend_from_slice(&bytes[..count]);
-        RowBytes { list }
+        let list = Vec::from_slice(alloc, &bytes[..count])?;
+        Ok(RowBytes { list })
     }
 
     /// The bytes.

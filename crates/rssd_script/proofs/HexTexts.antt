@@ -1,27 +1,10 @@
--- Digits in lower case are the digits that `hex` prints, and each even number of them is what it prints of some bytes.
-use Rattle.std.proofs.Common.{◌≡◌, ℕ, ◌+◌, ◌*◌, ◌/◌, ◌%◌, ◌^◌, ◌<◌, List, [], ◌∷◌, length, slice_index, true, ◌==◌, suc, refl, sym, ap, ◌∙◌, arith}
+-- The digits of bytes are in lower case, and each even number of such digits is those of some bytes.
+use Rattle.std.proofs.Common.{◌≡◌, ℕ, ◌+◌, ◌*◌, ◌/◌, ◌%◌, ◌^◌, ◌<◌, List, [], ◌∷◌, length, slice_index, true, suc, refl, sym, ap, ◌∙◌, arith}
 use Rattle.std.specs.List.{list_all}
-use Rattle.std.proofs.lemmas.Bool.{agree_below_at, eqb-true}
+use Rattle.std.proofs.lemmas.Bool.{agree_below_at}
 use Rattle.std.proofs.lemmas.List.Elements.{All-tail, All-get_or}
-use Rattle.hex.specs.Hex.{lower_digits, encode_lower, encode_with}
 use Rattle.std.proofs.lemmas.List.Sums.{AllPass-from_list_all}
 use Rattle.rssd_script.specs.Text.{hex_digit, hex_of, is_lower_digit, AreBytes}
-
--- the tables agree
-digit_at : (d : ℕ) → d < 16 → slice_index lower_digits d ≡ hex_digit d
-digit_at d h =
-    eqb-true (slice_index lower_digits d) (hex_digit d)
-    (agree_below_at (λ k. slice_index lower_digits k == hex_digit k) (λ _. true) 16 d refl h)
-
-pub encode_lower-is : (b : List ℕ) → AreBytes b → encode_lower b ≡ hex_of b
-unfolding encode_with
-encode_lower-is [] h = refl
-encode_lower-is (x ∷ b) h =
-    let fits : x < 2 ^ 8 = h 0 0 (omega arith) in
-    let high = digit_at (x / 16) (omega arith) in
-    let low = digit_at (x % 16) (omega arith) in
-    let rest = encode_lower-is b (All-tail (λ byte. byte < 2 ^ 8) x b h) in
-    λ i. high i ∷ low i ∷ rest i
 
 digit_is_lower : (d : ℕ) → d < 16 → is_lower_digit (hex_digit d) ≡ true
 digit_is_lower d h = agree_below_at (λ k. is_lower_digit (hex_digit k)) (λ _. true) 16 d refl h

@@ -49,6 +49,29 @@ fn write_bytes(digits: &[u8], bytes: &mut [u8])
     }
 }
 
+/// The digit of a number.
+fn digit_of(number: u8) -> u8
+    requires { number < 16 }
+    ensures { result ≡ hex_digit number }
+{
+    if number < 10 {
+        48 + number
+    } else {
+        87 + number
+    }
+}
+
+/// Writes the digits of the bytes. It looks nothing up, so that many bytes go at once.
+pub fn write_digits(bytes: &[u8], digits: &mut [u8])
+    requires { length digits.old ≡ 2 * length bytes.now }
+    ensures { digits.new ≡ hex_of bytes.now }
+{
+    for i in 0..bytes.len() {
+        digits[2 * i] = digit_of(bytes[i] / 16);
+        digits[2 * i + 1] = digit_of(bytes[i] % 16);
+    }
+}
+
 /// Whether the text is the digits of bytes, which are then written to `bytes`.
 pub fn read_hex(text: &[u8], bytes: &mut [u8]) -> bool
     requires { length text.now ≡ 2 * length bytes.old }

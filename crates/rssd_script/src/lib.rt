@@ -16,7 +16,7 @@ mod script;
 pub use byte_lists::{ReplyBytes, ReplyText, SectorBytes};
 pub use error::{OutOfMemory, ScriptError};
 pub use lines::{Line, TornWord};
-pub use print::{print_line, print_reply, print_tagged};
+pub use print::{print_line, print_reply, print_sector, print_tagged};
 pub use reader::ScriptReader;
 pub use replies::Reply;
 pub use script::{parse, printed_lines_are_read};

@@ -5,6 +5,7 @@ ghost use Rattle.rssd_script.specs.Text.{hex_of, hex_or_dash};
 ghost use Rattle.rssd_script.specs.Script.{IsWithinGrammar, line_text, torn_text};
 ghost use Rattle.rssd_script.specs.Replies.{reply_text, reply_line, tagged_line};
 
+use crate::hex_text::write_digits;
 use crate::{Line, OutOfMemory, Reply, ReplyText, TornWord};
 use arrayvec::ArrayVec;
 use itoa::Buffer;
@@ -40,7 +41,7 @@ fn put_digits(text: &mut TextRoom, bytes: &[u8], room: &mut [u8])
     ensures len { length text.new.items ≡ length text.old.items + 2 * length bytes.now }
 {
     let digits = &mut room[..2 * bytes.len()];
-    let _ = hex::encode_to_slice(bytes, digits);
+    write_digits(bytes, digits);
     put(text, digits);
 }
 
@@ -213,6 +214,19 @@ pub fn print_tagged(tag: u32, reply: &Reply) -> ReplyText
     put_number(&mut text, u64::from(tag));
     put(&mut text, b" ");
     put(&mut text, &room);
+    put(&mut text, b"\n");
+    ReplyText::from_bytes(text)
+}
+
+/// The line of a sector that is told: its number, a space and its bytes.
+pub fn print_sector(sector: u32, bytes: &[u8]) -> ReplyText
+    requires { length bytes.now ≤ 512 }
+    ensures { result ≡ decimal sector ++ 32 ∷ hex_or_dash bytes.now ++ 10 ∷ [] }
+{
+    let mut text = ArrayVec::new();
+    put_number(&mut text, u64::from(sector));
+    put(&mut text, b" ");
+    put_hex_or_dash(&mut text, bytes);
     put(&mut text, b"\n");
     ReplyText::from_bytes(text)
 }

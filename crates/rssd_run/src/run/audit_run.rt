@@ -32,7 +32,7 @@ use die_image::{ImageHead, ImageReader, SchemeName};
 use image_audit::{Held, OutOfMemory, Verdict, audit};
 use itoa::Buffer;
 use rssd_io::{Sink, Source, WriteFault};
-use rssd_script::{Reply, ReplyBytes, print_reply};
+use rssd_script::{ReplyText, print_sector};
 use std::alloc::{AllocError, Global};
 use striped::Scheme;
 
@@ -104,17 +104,10 @@ fn line_of_verdict(verdict: &Verdict) -> VerdictText
 }
 
 /// The line of a sector.
-#[tactic(auto, unfolding(rssd_script::specs::Replies::reply_text))]
-fn line_of_sector(held: &Held) -> ArrayVec<u8, 1124>
-    ensures { result.items ≡ sector_line (told_of held.now) }
+fn line_of_sector(held: &Held) -> ReplyText
+    ensures { result ≡ sector_line (told_of held.now) }
 {
-    let mut number = Buffer::new();
-    let bytes = print_reply(&Reply::Bytes(ReplyBytes::of(held.bytes.as_slice())));
-    let mut text = ArrayVec::new();
-    let _ = text.try_extend_from_slice(number.format(held.sector).as_bytes());
-    let _ = text.try_extend_from_slice(b" ");
-    let _ = text.try_extend_from_slice(bytes.as_slice());
-    text
+    print_sector(held.sector, held.bytes.as_slice())
 }
 
 /// Gives the lines for sound cells to `out`, each in one piece, and has it hand them on.

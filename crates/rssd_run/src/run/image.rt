@@ -12,7 +12,7 @@ use die_image::{ImageError, ImageHead, ImageReader, encode_head};
 use rssd_io::{Sink, Source, WriteFault};
 
 /// How many bytes are taken at once.
-const PIECE: usize = 4096;
+const PIECE: usize = 32768;
 
 /// Why an image was not read.
 #[derive(Clone, Copy, Debug, PartialEq, Eq)]
@@ -24,7 +24,7 @@ pub enum ImageReadError {
 
 /// How many bytes are taken next: what the reader wants, up to a piece.
 fn next_count(reader: &ImageReader) -> usize
-    ensures { result ≡ min (wanted reader.now) 4_096 }
+    ensures { result ≡ min (wanted reader.now) 32_768 }
 {
     reader.wants().min(PIECE as u64) as usize
 }

@@ -1,5 +1,5 @@
 -- One record more is told.
-use Rattle.std.proofs.Common.{◌≡◌, ℕ, false, List, get_or, take}
+use Rattle.std.proofs.Common.{false}
 use Rattle.std.proofs.lemmas.List.Elements.{All-more}
 use Rattle.image_audit.specs.declared.mark.Mark.{Mark}
 use Rattle.image_audit.specs.Images.{pages_in}
@@ -16,6 +16,6 @@ loop-mark-preserved g c =
     let decoding = (g.C.Scheme.meaning c.args.scheme.now).decoding in
     let cells = pages_in geometry c.args.cells.now in
     record {
-      told = told_more geometry decoding cells c.args.live.now c.loop-mark.mark-index no_mark c.loop-mark.held.items c.push.new.self.items c.hold_one.result c.loop-mark-test.true c.hold_one.ensures.told c.in_ok-push.ensures.items c.loop-mark.invariant.told;
-      whole = All-more (IsWhole geometry decoding cells) c.args.live.now c.loop-mark.mark-index no_mark c.loop-mark-test.true c.loop-mark.invariant.whole c.hold_one.ensures.whole;
+      told = told_more geometry decoding cells c.args.live.now c.loop-mark.mark-index no_mark c.loop-mark.held.items c.push.new.self.items c.in_ok-hold_one.field-0 c.loop-mark-test.true c.in_ok-hold_one.ensures.told c.in_ok-push.ensures.items c.loop-mark.invariant.told;
+      whole = All-more (IsWhole geometry decoding cells) c.args.live.now c.loop-mark.mark-index no_mark c.loop-mark-test.true c.loop-mark.invariant.whole c.in_ok-hold_one.ensures.whole;
     }

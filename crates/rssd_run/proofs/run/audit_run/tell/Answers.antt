@@ -32,7 +32,7 @@ loop-one-preserved g c =
     let i = c.loop-one.one-index in
     let old = log c.args.out.now in
     let lines = sound_lines (map told_of held) in
-    let line = c.as_slice.ensures.value ∙ c.line_of_sector.ensures in
+    let line = c.as_slice.ensures ∙ c.line_of_sector.ensures in
     let next = next_line held i c.one-item.result (omega arith) c.one-item.is in
     given_more old (log c.loop-one.out) (log c.give-in-loop-one.new.self) lines (lines_from (i + 1) held) (sector_line (told_of c.one-item.result))
     (subst (IsGiven old (log c.loop-one.out) lines) next c.loop-one.invariant)
@@ -45,7 +45,7 @@ returns-in_err-give-2-clause-stops g c =
     let i = c.loop-one.one-index in
     let old = log c.args.out.now in
     let lines = sound_lines (map told_of held) in
-    let line = c.as_slice.ensures.value ∙ c.line_of_sector.ensures in
+    let line = c.as_slice.ensures ∙ c.line_of_sector.ensures in
     let next = next_line held i c.one-item.result (omega arith) c.one-item.is in
     let part = c.in_err-give-2.ensures.log in
     on_err c.from_residual-in_err-give-2.result _

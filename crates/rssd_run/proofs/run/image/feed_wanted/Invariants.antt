@@ -7,7 +7,7 @@ use Rattle.rssd_run.proofs.run.image.feed_wanted.Given as goal
 abbrev pub invariant-loop-room : goal.invariant-loop-room
 invariant-loop-room g l = record {
   fed : IsFed (g.I.Source.log l.fn.image) (g.I.Source.log l.image) l.fn.reader l.reader;
-  room : l.room ≡ min (wanted l.reader) 4_096;
+  room : l.room ≡ min (wanted l.reader) 32_768;
 }
 
 -- no reader is fed more than the longest image and a byte
