@@ -10,13 +10,13 @@ PROGRAM = os.environ.get("RSSD") or os.path.join(TOP, "build", "rssd")
 class Failed(Exception):
     """The program ended with another status than 0."""
 
-    def __init__(self, words, status, said):
-        super().__init__(words, status, said)
-        self.words, self.status, self.said = words, status, said
+    def __init__(self, words, status, said, name="rssd"):
+        super().__init__(words, status, said, name)
+        self.words, self.status, self.said, self.name = words, status, said, name
 
     def __str__(self):
         said = self.said.decode(errors="replace")[:60].strip()
-        return f"rssd {' '.join(self.words)}: status {self.status} {said}".rstrip()
+        return f"{self.name} {' '.join(self.words)}: status {self.status} {said}".rstrip()
 
 
 def call(words, script=b"", folder=None):

@@ -1,4 +1,4 @@
-"""Runs of a workload on a device, in as many scripts as it takes, and what was counted."""
+"""Runs of a workload on a device, by lab or in as many scripts as it takes, and what was counted."""
 import glob
 import os
 import tempfile
@@ -6,6 +6,7 @@ from dataclasses import dataclass
 from typing import Optional
 
 from formats import HEAD_BYTES, MOST_SCRIPT_BYTES, Scheme
+from lab import counted
 from program import Kept, play
 from workload import lines_of
 
@@ -14,7 +15,8 @@ STAT_ROOM = len(b"stat\n")
 
 @dataclass(frozen=True)
 class Case:
-    """One run: a device, a workload or the parts of a trace, and a seed. `wear` is the lines between two looks at the die."""
+    """One run: a device, a workload or the parts of a trace, and a seed. `wear` is the lines between two looks at the die. By lab
+    `writes` are lines, behind `skip` lines that are not counted."""
 
     scheme: Scheme
     blocks: int
@@ -28,6 +30,8 @@ class Case:
     reuse_asked: str = ""
     wear: int = 0
     trace: Optional[str] = None
+    by_lab: bool = False
+    skip: int = 0
 
     @property
     def words(self):
@@ -124,30 +128,57 @@ def split_at_stat(lines, most_lines):
     yield from parts(lines, most_lines)
 
 
-def run(case):
-    """The row of a case: its numbers, and what was counted between the first and the last `stat`."""
-    scripts = list(split_at_stat(case.lines(), case.wear) if case.wear else parts(case.lines(), 0))
-    marks, wear = run_in_one(case, scripts[0]) if len(scripts) == 1 else run_in_parts(case, scripts)
-    begin = marks[0] if len(marks) > 1 else [0] * 5
-    first, second, declined, moved, erased = (b - a for a, b in zip(begin, marks[-1]))
+def row_of(case, first, second, declined, moved, erased, parts):
+    """The row of a case up to its wear: its numbers, and what was counted."""
     writes = first + second + declined
-    main_bytes = case.blocks * case.pages * case.scheme.page_bytes
-    row = {
+    return {
         "scheme": case.scheme.name, "blocks": case.blocks, "pages": case.pages, "sectors": case.sectors,
         "load": round(case.sectors / (case.blocks * case.pages), 2), "reuse": case.reuse, "reuse_asked": case.reuse_asked or case.reuse,
         "workload": case.workload_name, "idle": case.idle, "asked": case.writes, "seed": case.seed,
         "writes": writes, "first": first, "second": second, "declined": declined, "moved": moved, "erased": erased,
         "erases_per_1000": per(1000 * erased, writes), "second_percent": per(100 * second, writes), "declined_percent": per(100 * declined, writes),
         "write_amplification": per(writes + moved, writes), "erased_bytes_per_byte": per(erased * case.pages * case.scheme.page_bytes, writes * case.scheme.sector_bytes),
-        "main_bytes": main_bytes, "die_bytes": case.blocks * case.pages * case.scheme.whole_page, "parts": len(scripts),
+        "main_bytes": case.blocks * case.pages * case.scheme.page_bytes, "die_bytes": case.blocks * case.pages * case.scheme.whole_page, "parts": parts,
     }
+
+
+def wear_of(seen, erased):
+    """The columns of wear: the erases of each block that were seen, if one looked, beside all of them."""
+    least, mean, most, missed = (min(seen), round(sum(seen) / len(seen), 1), max(seen), erased - sum(seen)) if seen else ("", "", "", "")
+    return {"wear_least": least, "wear_mean": mean, "wear_most": most, "wear_missed": missed}
+
+
+def run_by_script(case):
+    """The row of a case by scripts: what was counted between the first and the last `stat`."""
+    scripts = list(split_at_stat(case.lines(), case.wear) if case.wear else parts(case.lines(), 0))
+    marks, wear = run_in_one(case, scripts[0]) if len(scripts) == 1 else run_in_parts(case, scripts)
+    begin = marks[0] if len(marks) > 1 else [0] * 5
+    first, second, declined, moved, erased = (b - a for a, b in zip(begin, marks[-1]))
     seen = wear.erases if wear else None
-    row["wear_least"], row["wear_mean"], row["wear_most"], row["wear_missed"] = (
-        (min(seen), round(sum(seen) / len(seen), 1), max(seen), erased - sum(seen)) if seen else ("", "", "", "")
-    )
+    row = {**row_of(case, first, second, declined, moved, erased, len(scripts)), **wear_of(seen, erased)}
     if seen:
         row["wear_blocks"] = " ".join(map(str, seen))
     return row
+
+
+def run_by_lab(case):
+    """The row of a case by `lab draw`, with what its tables tell more."""
+    told = counted(case)
+    run, writes = told.run, sum(told.run[name] for name in ("first", "second", "declined"))
+    return {
+        **row_of(case, *(run[name] for name in ("first", "second", "declined", "moved", "erases")), 1),
+        **wear_of(told.erases, run["erases"]),
+        "by": "lab", "skipped": case.skip, "lines": run["lines"],
+        **{f"{name}_lines": run[name] for name in ("read", "trim", "idle", "other")},
+        **{name: run[name] for name in ("reads", "programs", "charges")},
+        "programs_per_1000": per(1000 * run["programs"], writes),
+        **told.most,
+        "wear_blocks": " ".join(map(str, told.erases)),
+    }
+
+
+def run(case):
+    return run_by_lab(case) if case.by_lab else run_by_script(case)
 
 
 def per(number, whole):

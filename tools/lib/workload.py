@@ -38,6 +38,16 @@ def chooser(workload, sectors, rng):
     return WORKLOADS[name](sectors, rng, *numbers)
 
 
+def idle_of(word):
+    """The numbers of `K:N`: before each K-th write comes `idle N`. 0 is none."""
+    if word == "0":
+        return 0, 0
+    every, colon, moves = word.partition(":")
+    if not (colon and every.isdigit() and moves.isdigit() and int(every)):
+        raise ValueError(f"idle {word}: by script it is 0 or K:N")
+    return int(every), int(moves)
+
+
 def write_line(sector, sector_bytes, rng):
     return f"write {sector} {rng.randbytes(sector_bytes).hex()}\n".encode()
 
@@ -47,7 +57,7 @@ def lines_of(case):
     rng = random.Random(f"{case.seed} {case.workload} {case.sectors}")
     choose = chooser(case.workload, case.sectors, rng)
     size = case.scheme.sector_bytes
-    every, moves = map(int, case.idle.split(":")) if ":" in case.idle else (0, 0)
+    every, moves = idle_of(case.idle)
     for sector in range(case.sectors):
         yield write_line(sector, size, rng)
     yield b"stat\n"
