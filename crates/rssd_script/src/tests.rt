@@ -131,3 +131,18 @@ fn lines_and_replies_are_printed(rt: HostRuntime) -> Result<(), Fail> {
     }
     Ok(())
 }
+
+#[test]
+fn a_sector_is_told_by_its_number_and_its_bytes(rt: HostRuntime) {
+    for (sector, bytes, line) in [
+        (0, [].as_slice(), b"0 -\n".as_slice()),
+        (70, &[0x0f, 0xa9, 0xff], b"70 0fa9ff\n"),
+        (
+            4294967295,
+            b"seventeen letters",
+            b"4294967295 736576656e7465656e206c657474657273\n",
+        ),
+    ] {
+        assert_eq!(rt; print_sector(sector, bytes).as_slice(), line);
+    }
+}
