@@ -10,7 +10,7 @@ use Rattle.rssd_core.specs.DeviceValue.{DeviceValue}
 use Rattle.rssd_disk.specs.declared.device_disk.DeviceDisk.{DeviceDisk}
 use Rattle.rssd_disk.specs.declared.serving.Ended.{Ended}
 use Rattle.rssd_disk.specs.declared.serving.Ended.TheVariants.{Left, Cut, NotProtocol, ReadFault, WriteFault, NoPower}
-use Rattle.rssd_disk.specs.Sessions.{Answering, Asks, AnswersOne, AnswersAll, none, more, EndsSo, EndsAfter}
+use Rattle.rssd_disk.specs.Sessions.{Answering, Asks, AnswersOne, AnswersAll, none, more, EndsBehind, EndsAfter}
 use Rattle.rssd_disk.specs.Handshakes.{Session, unmet, met}
 use Rattle.rssd_disk.specs.Held.{Holding, numbers_held, IsPlanned, IsTold, AnswersHeld}
 use Rattle.rssd_disk.specs.DeviceBytes.{bytes_on, HasSound, sector_bytes_on}
@@ -46,34 +46,35 @@ one_map : {K L : Type 0} {answers : Answering K} {plain : Answering L} {f : K �
 one_map follows good a = record { asks = asks_map follows good a.asks; replied = a.replied }
 
 -- what holds after requests that were answered
-all_good : {K L : Type 0} {answers : Answering K} {plain : Answering L} {f : K → L} {Good : K → Type 0} {old : K} {from to : List Event} {new : K} {left given : List Event} → Follows answers plain f Good → Good old
-    → AnswersAll answers old from to new left given → Good new
+all_good : {K L : Type 0} {answers : Answering K} {plain : Answering L} {f : K → L} {Good : K → Type 0} {old : K} {from to : List Event} {count : ℕ} {new : K} {left given : List Event} → Follows answers plain f Good → Good old
+    → AnswersAll answers old from to count new left given → Good new
 all_good follows good none = good
 all_good follows good (more {mid = mid} {next = next} all one) =
     follows.good mid next one.asks.request one.asks.before one.asks.after one.asks.reply (all_good follows good all) one.asks.asked
 
-all_map : {K L : Type 0} {answers : Answering K} {plain : Answering L} {f : K → L} {Good : K → Type 0} {old : K} {from to : List Event} {new : K} {left given : List Event} → Follows answers plain f Good → Good old
-    → AnswersAll answers old from to new left given → AnswersAll plain (f old) from to (f new) left given
+all_map : {K L : Type 0} {answers : Answering K} {plain : Answering L} {f : K → L} {Good : K → Type 0} {old : K} {from to : List Event} {count : ℕ} {new : K} {left given : List Event} → Follows answers plain f Good → Good old
+    → AnswersAll answers old from to count new left given → AnswersAll plain (f old) from to count (f new) left given
 all_map follows good none = none
 all_map follows good (more all one) = more (all_map follows good all) (one_map follows (all_good follows good all) one)
 
-ends_map : {K L : Type 0} {answers : Answering K} {plain : Answering L} {f : K → L} {Good : K → Type 0} (ended : Ended) (old new : K) (from left to given : List Event) → Follows answers plain f Good → Good old
-    → EndsSo answers ended old new from left to given → EndsSo plain ended (f old) (f new) from left to given
-ends_map {f = f} WriteFault old new from left to given follows good h = asks_map follows good h
-ends_map {f = f} NoPower old new from left to given follows good h = (asks_map follows good h.0, h.1)
-ends_map {f = f} Left old new from left to given follows good h = (ap f h.0, h.1)
-ends_map {f = f} Cut old new from left to given follows good h = (ap f h.0, h.1)
-ends_map {f = f} NotProtocol old new from left to given follows good h = (ap f h.0, h.1)
-ends_map {f = f} ReadFault old new from left to given follows good h = (ap f h.0, h.1)
+ends_map : {K L : Type 0} {answers : Answering K} {plain : Answering L} {f : K → L} {Good : K → Type 0} (count : ℕ) (ended : Ended) (old new : K) (from left to given : List Event) → Follows answers plain f Good → Good old
+    → EndsBehind answers count ended old new from left to given → EndsBehind plain count ended (f old) (f new) from left to given
+ends_map {f = f} count WriteFault old new from left to given follows good h = asks_map follows good h
+ends_map {f = f} count NoPower old new from left to given follows good h = (asks_map follows good h.0, h.1)
+ends_map {f = f} count Left old new from left to given follows good h = (h.0, ap f h.1, h.2)
+ends_map {f = f} count Cut old new from left to given follows good h = (h.0, ap f h.1, h.2)
+ends_map {f = f} count NotProtocol old new from left to given follows good h = (h.0, ap f h.1, h.2)
+ends_map {f = f} count ReadFault old new from left to given follows good h = (h.0, ap f h.1, h.2)
 
 after_map : {K L : Type 0} {answers : Answering K} {plain : Answering L} {f : K → L} {Good : K → Type 0} {ended : Ended} {old new : K} {from left to given : List Event} → Follows answers plain f Good → Good old
     → EndsAfter answers ended old new from left to given → EndsAfter plain ended (f old) (f new) from left to given
 after_map {f = f} {ended = ended} {new = new} {left = left} {given = given} follows good h = record {
+  count = h.count;
   mid = f h.mid;
   taken = h.taken;
   told_to = h.told_to;
   answered = all_map follows good h.answered;
-  ends = ends_map ended h.mid new h.taken left h.told_to given follows (all_good follows good h.answered) h.ends;
+  ends = ends_map h.count ended h.mid new h.taken left h.told_to given follows (all_good follows good h.answered) h.ends;
 }
 
 pub session_map : {K L : Type 0} {answers : Answering K} {plain : Answering L} {f : K → L} {Good : K → Type 0} {size : ℕ} {ended : Ended} {old new : K} {from left to given : List Event} → Follows answers plain f Good

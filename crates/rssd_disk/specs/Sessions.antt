@@ -1,7 +1,7 @@
 -- Requests that are answered one after another.
-use Rattle.std.specs.Prelude.{◌≡◌, ℕ, ◌≤◌, List, [], ◌∷◌, ◌++◌, length}
+use Rattle.std.specs.Prelude.{◌≡◌, ◌≢◌, ◌⊎◌, ℕ, ◌+◌, ◌-◌, ◌^◌, ◌≤◌, List, [], ◌∷◌, ◌++◌, length}
 use Rattle.nbd_wire.specs.declared.command.Command.{Command}
-use Rattle.nbd_wire.specs.declared.command.Command.TheVariants.{Read, Write}
+use Rattle.nbd_wire.specs.declared.command.Command.TheVariants.{Read, Write, Disconnect}
 use Rattle.nbd_wire.specs.declared.reply.Errno.{Errno}
 use Rattle.nbd_wire.specs.declared.reply.Errno.TheVariants.{Done}
 use Rattle.nbd_wire.specs.declared.request.Request.{Request}
@@ -9,9 +9,9 @@ use Rattle.nbd_wire.specs.Requests.{request_bytes, IsRequest}
 use Rattle.nbd_wire.specs.Replies.{reply_bytes}
 use Rattle.rssd_io.specs.Event.{Event, moved}
 use Rattle.rssd_disk.specs.declared.serving.Ended.{Ended}
-use Rattle.rssd_disk.specs.declared.serving.Ended.TheVariants.{WriteFault, NoPower}
+use Rattle.rssd_disk.specs.declared.serving.Ended.TheVariants.{Left, NotProtocol, WriteFault, NoPower}
 use Rattle.rssd_disk.specs.Rules.{longest, data_length}
-use Rattle.rssd_disk.specs.Streams.{Takes}
+use Rattle.rssd_disk.specs.Streams.{Takes, HasStopped}
 
 -- What stands behind the head of a request: the bytes of a write, of which those of one that is too long are passed over.
 abbrev pub IsBehind : Request → Command → List ℕ → List ℕ → Type 0
@@ -66,22 +66,48 @@ pub record AnswersOne {K : Type 0} (answers : Answering K) (disk next : K) (from
   pub asks : Asks answers disk next from left
   pub replied : given ≡ to ++ moved (reply_to asks.request asks.reply asks.after) ∷ []
 
--- requests were answered, each once, in their order
-pub data AnswersAll {K : Type 0} (answers : Answering K) (disk : K) (from to : List Event) : K → List Event → List Event → Type 0 where
-  none : AnswersAll answers disk from to disk from to
-  more : {mid next : K} {left rest given all : List Event} → AnswersAll answers disk from to mid left given → AnswersOne answers mid next left rest given all → AnswersAll answers disk from to next rest all
+-- so many requests were answered, each once, in their order
+pub data AnswersAll {K : Type 0} (answers : Answering K) (disk : K) (from to : List Event) : ℕ → K → List Event → List Event → Type 0 where
+  none : AnswersAll answers disk from to 0 disk from to
+  more : {count : ℕ} {mid next : K} {left rest given all : List Event} → AnswersAll answers disk from to count mid left given → AnswersOne answers mid next left rest given all → AnswersAll answers disk from to (count + 1) next rest all
+
+-- so many bytes were taken as a request's head has, and they are none
+pub record TakesNoRequest (from left : List Event) : Type 0 where
+  pub bytes : List ℕ
+  pub long : length bytes ≡ 28
+  pub taken : Takes from left bytes
+  pub none : (request : Request) → IsRequest request → bytes ≢ request_bytes request
+
+-- the client said that it leaves
+pub record TakesLeave (from left : List Event) : Type 0 where
+  pub request : Request
+  pub spelled : IsRequest request
+  pub leaves : request.command ≡ Disconnect
+  pub taken : Takes from left (request_bytes request)
+
+-- why no request was taken
+abbrev pub NoRequest : Ended → List Event → List Event → Type 0
+NoRequest NotProtocol from left = TakesNoRequest from left
+NoRequest Left from left = TakesLeave from left
+NoRequest ended from left = HasStopped ended left
 
 -- How the next request is not answered: where it did not come whole, is not the protocol or says that the client leaves, the disk is
 -- as it was and nothing is given; else it was asked of the disk, and the reply was not given.
 abbrev pub EndsSo : {K : Type 0} → Answering K → Ended → K → K → List Event → List Event → List Event → List Event → Type 0
 EndsSo answers WriteFault disk next from left to given = Asks answers disk next from left
 EndsSo answers NoPower disk next from left to given = Asks answers disk next from left × (given ≡ to)
-EndsSo answers _ disk next from left to given = (next ≡ disk) × (given ≡ to)
+EndsSo answers ended disk next from left to given = NoRequest ended from left × (next ≡ disk) × (given ≡ to)
+
+-- the same after so many requests: more are not taken
+abbrev pub EndsBehind : {K : Type 0} → Answering K → ℕ → Ended → K → K → List Event → List Event → List Event → List Event → Type 0
+EndsBehind answers count NotProtocol disk next from left to given = (TakesNoRequest from left ⊎ (count ≡ 2 ^ 64 - 1)) × (next ≡ disk) × (given ≡ to)
+EndsBehind answers count ended disk next from left to given = EndsSo answers ended disk next from left to given
 
 -- requests were answered, and the next was not
 pub record EndsAfter {K : Type 0} (answers : Answering K) (ended : Ended) (disk last : K) (from left to given : List Event) : Type 0 where
+  pub count : ℕ
   pub mid : K
   pub taken : List Event
   pub told_to : List Event
-  pub answered : AnswersAll answers disk from to mid taken told_to
-  pub ends : EndsSo answers ended mid last taken left told_to given
+  pub answered : AnswersAll answers disk from to count mid taken told_to
+  pub ends : EndsBehind answers count ended mid last taken left told_to given

@@ -4,8 +4,8 @@ ghost use Rattle.nbd_wire.specs.Requests.{request_bytes, IsRequest};
 ghost use Rattle.rssd_io.specs.Event.{moved};
 ghost use Rattle.rssd_disk.specs.Bytes.{part_of};
 ghost use Rattle.rssd_disk.specs.Rules.{data_length};
-ghost use Rattle.rssd_disk.specs.Sessions.{Brings, IsQuiet, told_length, reply_to, AnswersOne, EndsSo, EndsAfter};
-ghost use Rattle.rssd_disk.specs.Streams.{Takes};
+ghost use Rattle.rssd_disk.specs.Sessions.{Brings, IsQuiet, told_length, reply_to, AnswersOne, NoRequest, EndsSo, EndsAfter};
+ghost use Rattle.rssd_disk.specs.Streams.{Takes, HasStopped};
 
 use crate::device_disk::Disk;
 use crate::exact::{skip, take_all};
@@ -22,6 +22,7 @@ const HEAD: usize = 16;
 fn take_request<I: Source>(from: &mut I) -> Result<Request, Ended>
     ensures taken { IfOk result (λ request. Takes (I.log from.old) (I.log from.new) (request_bytes request)) }
     ensures spelled { IfOk result IsRequest }
+    ensures none { IfErr result (λ ended. NoRequest ended (I.log from.old) (I.log from.new)) }
     ensures quiet { IfErr result IsQuiet }
 {
     let mut bytes = [0; 28];
@@ -37,6 +38,7 @@ fn take_brought<I: Source>(from: &mut I, request: &Request, room: &mut [u8]) -> 
     requires command { request.now.command ≡ Command.Write }
     requires room { length room.old ≡ 1048592 }
     ensures brings { OnOk result (Brings request.now (I.log from.old) (I.log from.new) (part_of 16 (data_length request.now) room.new)) }
+    ensures stopped { IfErr result (λ ended. HasStopped ended (I.log from.new)) }
     ensures quiet { IfErr result IsQuiet }
 {
     if request.length > LONGEST {
@@ -49,6 +51,7 @@ fn take_brought<I: Source>(from: &mut I, request: &Request, room: &mut [u8]) -> 
 fn take_behind<I: Source>(from: &mut I, request: &Request, room: &mut [u8]) -> Result<(), Ended>
     requires { length room.old ≡ 1048592 }
     ensures brings { OnOk result (Brings request.now (I.log from.old) (I.log from.new) (part_of 16 (data_length request.now) room.new)) }
+    ensures stopped { IfErr result (λ ended. HasStopped ended (I.log from.new)) }
     ensures quiet { IfErr result IsQuiet }
 {
     match request.command {
@@ -104,7 +107,7 @@ fn answer_one<K: Disk, I: Source, O: Sink>(
     ensures ends { IfErr result (λ ended. EndsSo K.answers ended disk.old disk.new (I.log from.old) (I.log from.new) (O.log to.old) (O.log to.new)) }
 {
     let request = take_request(from)?;
-    if request.command == Command::Disconnect {
+    if let Command::Disconnect = request.command {
         return Err(Ended::Left);
     }
     take_behind(from, &request, room)?;
@@ -129,10 +132,12 @@ pub(crate) fn answer_all<K: Disk, I: Source, O: Sink>(
     ensures held { K.held disk.new }
     ensures answers { EndsAfter K.answers result disk.old disk.new (I.log from.old) (I.log from.new) (O.log to.old) (O.log to.new) }
 {
-    for _ in 0..u64::MAX {
-        if let Err(ended) = answer_one(alloc, disk, from, to, room) {
-            return ended;
+    let mut answered = 0;
+    while answered < u64::MAX {
+        match answer_one(alloc, disk, from, to, room) {
+            Ok(()) => answered += 1,
+            Err(ended) => return ended,
         }
     }
-    Ended::Left
+    Ended::NotProtocol
 }
