@@ -11,7 +11,6 @@ from program import TOP, Failed
 LAB = os.environ.get("LAB") or os.path.join(TOP, "build", "lab")
 WORKLOADS = ("uniform", "hot", "zipf", "sequential", "mixed")
 REPLIES = ("first", "second", "declined", "read", "trim", "idle", "other")
-CALLS = ("reads", "programs", "charges", "erases")
 MOST_IDLE = 1_000
 
 
