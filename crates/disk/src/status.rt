@@ -89,14 +89,19 @@ pub fn tell(rt: &HostRuntime, status: Status) {
     let _ = errors.give(status.line());
 }
 
-/// Tells standard error what a session came to, as a script's line `stat` is answered. A fault there changes nothing.
+/// Tells standard error what a session came to in which something was written, as a script's line `stat` is answered. A fault there
+/// changes nothing.
 pub fn tell_tallies(rt: &HostRuntime, tallies: Tallies) {
+    let Tallies { counts, erased } = tallies;
+    if counts.first == 0 && counts.second == 0 && counts.declined == 0 && erased == 0 {
+        return;
+    }
     let reply = Reply::Stat {
-        first: tallies.counts.first,
-        second: tallies.counts.second,
-        declined: tallies.counts.declined,
-        moved: tallies.counts.moved,
-        erased: tallies.erased,
+        first: counts.first,
+        second: counts.second,
+        declined: counts.declined,
+        moved: counts.moved,
+        erased,
     };
     let mut errors = StdSink::new(rt.stderr());
     let _ = errors.give(print_reply(&reply).as_slice());
