@@ -1,5 +1,5 @@
 -- A request that was taken is asked, and its reply has its handle.
-use Rattle.std.proofs.Common.{◌≡◌, ℕ, ◌+◌, ◌≤◌, List, [], ◌∷◌, ◌++◌, length, take, drop, sym, ◌∙◌, ap, refl, arith, subst, Result, Ok, Err, IfErr}
+use Rattle.std.proofs.Common.{◌≡◌, ℕ, ◌+◌, ◌≤◌, Bool, true, Option, Some, None, IfSome, List, [], ◌∷◌, ◌++◌, length, take, drop, sym, ◌∙◌, ap, refl, arith, subst, Result, Ok, Err, IfErr}
 use borrow.Rule.Slice.PartMut.{put_mid}
 use Rattle.std.proofs.Math.Seq.{take-append-add}
 use Rattle.std.proofs.lemmas.List.{length-take, drop_at, take_at}
@@ -35,11 +35,17 @@ asks_of answers disk next from mid left request room slice after reply spelled h
   asked = subst (λ (l : List ℕ). answers disk next request l after reply) same asked;
 }
 
-pub answers_of : {K : Type 0} (answers : Answering K) (disk next : K) (from mid left to given : List Event) (request : Request) (room slice after : List ℕ) (reply : Errno) → IsRequest request
+-- what is told of the power is what was found of it
+pub power_found : (told : Option Bool) (found wanted : Bool) → IfSome told (λ there. found ≡ there) → found ≡ wanted → IfSome told (λ there. there ≡ wanted)
+power_found None found wanted is same = tt
+power_found (Some there) found wanted is same = sym is ∙ same
+
+pub answers_of : {K : Type 0} (answers : Answering K) (power : K → Option Bool) (disk next : K) (from mid left to given : List Event) (request : Request) (room slice after : List ℕ) (reply : Errno) → IsRequest request
     → Takes from mid (request_bytes request) → Brings request mid left (part_of 16 (data_length request) room) → slice ≡ part_of 16 (data_length request) room → length after ≡ data_length request
-    → answers disk next request slice after reply → given ≡ to ++ moved (reply_to request reply after) ∷ [] → AnswersOne answers disk next from left to given
+    → answers disk next request slice after reply → IfSome (power next) (λ there. there ≡ true) → given ≡ to ++ moved (reply_to request reply after) ∷ [] → AnswersOne answers power disk next from left to given
 unfolding asks_of
-answers_of answers disk next from mid left to given request room slice after reply spelled head brings same long asked replied = record {
+answers_of answers power disk next from mid left to given request room slice after reply spelled head brings same long asked powered replied = record {
+  powered = powered;
   asks = asks_of answers disk next from mid left request room slice after reply spelled head brings same long asked;
   replied = replied;
 }
@@ -70,7 +76,7 @@ reply_piece r reply head room count is long counted =
     ∙ ap (λ l. l ++ take count (drop 16 room)) is
     ∙ ap (λ l. reply_bytes (record { error = reply; handle = r.handle }) ++ l) (ap (λ n. take n (drop 16 room)) counted ∙ sym (told_is r.command reply (data_length r) (drop 16 room)))
 
-pub ends_write : {T K : Type 0} (answers : Answering K) (disk next : K) (from left to given : List Event) (r : Result T Ended) → Asks answers disk next from left → IfErr r (λ ended. ended ≡ WriteFault)
-    → IfErr r (λ ended. EndsSo answers ended disk next from left to given)
-ends_write answers disk next from left to given (Ok x) asks h = tt
-ends_write answers disk next from left to given (Err ended) asks h = subst (λ (e : Ended). EndsSo answers e disk next from left to given) (sym h) asks
+pub ends_write : {T K : Type 0} (answers : Answering K) (power : K → Option Bool) (disk next : K) (from left to given : List Event) (r : Result T Ended) → Asks answers disk next from left → IfErr r (λ ended. ended ≡ WriteFault)
+    → IfErr r (λ ended. EndsSo answers power ended disk next from left to given)
+ends_write answers power disk next from left to given (Ok x) asks h = tt
+ends_write answers power disk next from left to given (Err ended) asks h = subst (λ (e : Ended). EndsSo answers power e disk next from left to given) (sym h) asks

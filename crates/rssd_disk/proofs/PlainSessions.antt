@@ -1,5 +1,5 @@
 -- A session over a disk is the same session over what stands for it, where each answer is.
-use Rattle.std.proofs.Common.{◌≡◌, ℕ, ◌*◌, List, length, sym, ◌∙◌, ap, refl, subst, Option, Some, None}
+use Rattle.std.proofs.Common.{◌≡◌, ℕ, ◌*◌, Bool, List, length, sym, ◌∙◌, ap, refl, subst, Option, Some, None}
 use Rattle.cell_die.specs.DieState.{DieState}
 use Rattle.nbd_wire.specs.declared.reply.Errno.{Errno}
 use Rattle.nbd_wire.specs.declared.request.Request.{Request}
@@ -14,7 +14,7 @@ use Rattle.rssd_disk.specs.Sessions.{Answering, Asks, AnswersOne, AnswersAll, no
 use Rattle.rssd_disk.specs.Handshakes.{Session, unmet, met}
 use Rattle.rssd_disk.specs.Held.{Holding, numbers_held, IsPlanned, IsTold, AnswersHeld}
 use Rattle.rssd_disk.specs.DeviceBytes.{bytes_on, HasSound, sector_bytes_on}
-use Rattle.rssd_disk.specs.DeviceDisks.{holding, IsDeviceDisk, DeviceAnswers, disk_bytes, HasSoundCells, sector_bytes_of}
+use Rattle.rssd_disk.specs.DeviceDisks.{holding, IsDeviceDisk, DeviceAnswers, disk_bytes, HasSoundCells, sector_bytes_of, power_of}
 use Rattle.rssd_disk.specs.PlainServer.{AnswersPlainly}
 use Rattle.page_codec.specs.Sectors.{stored}
 use Rattle.rssd_disk.proofs.Joined.{length-joined}
@@ -41,44 +41,44 @@ asks_map {K} {L} {answers} {plain} {f} {Good} {old} {new} {from} {left} follows 
   asked = follows.step old new a.request a.before a.after a.reply good a.asked;
 }
 
-one_map : {K L : Type 0} {answers : Answering K} {plain : Answering L} {f : K → L} {Good : K → Type 0} {old new : K} {from left to given : List Event} → Follows answers plain f Good → Good old
-    → AnswersOne answers old new from left to given → AnswersOne plain (f old) (f new) from left to given
-one_map follows good a = record { asks = asks_map follows good a.asks; replied = a.replied }
+one_map : {K L : Type 0} {answers : Answering K} {power : K → Option Bool} {plain : Answering L} {f : K → L} {Good : K → Type 0} {old new : K} {from left to given : List Event} → Follows answers plain f Good → Good old
+    → AnswersOne answers power old new from left to given → AnswersOne plain (λ _. None) (f old) (f new) from left to given
+one_map follows good a = record { asks = asks_map follows good a.asks; powered = tt; replied = a.replied }
 
 -- what holds after requests that were answered
-all_good : {K L : Type 0} {answers : Answering K} {plain : Answering L} {f : K → L} {Good : K → Type 0} {old : K} {from to : List Event} {count : ℕ} {new : K} {left given : List Event} → Follows answers plain f Good → Good old
-    → AnswersAll answers old from to count new left given → Good new
+all_good : {K L : Type 0} {answers : Answering K} {power : K → Option Bool} {plain : Answering L} {f : K → L} {Good : K → Type 0} {old : K} {from to : List Event} {count : ℕ} {new : K} {left given : List Event} → Follows answers plain f Good → Good old
+    → AnswersAll answers power old from to count new left given → Good new
 all_good follows good none = good
 all_good follows good (more {mid = mid} {next = next} all one) =
     follows.good mid next one.asks.request one.asks.before one.asks.after one.asks.reply (all_good follows good all) one.asks.asked
 
-all_map : {K L : Type 0} {answers : Answering K} {plain : Answering L} {f : K → L} {Good : K → Type 0} {old : K} {from to : List Event} {count : ℕ} {new : K} {left given : List Event} → Follows answers plain f Good → Good old
-    → AnswersAll answers old from to count new left given → AnswersAll plain (f old) from to count (f new) left given
+all_map : {K L : Type 0} {answers : Answering K} {power : K → Option Bool} {plain : Answering L} {f : K → L} {Good : K → Type 0} {old : K} {from to : List Event} {count : ℕ} {new : K} {left given : List Event} → Follows answers plain f Good → Good old
+    → AnswersAll answers power old from to count new left given → AnswersAll plain (λ _. None) (f old) from to count (f new) left given
 all_map follows good none = none
 all_map follows good (more all one) = more (all_map follows good all) (one_map follows (all_good follows good all) one)
 
-ends_map : {K L : Type 0} {answers : Answering K} {plain : Answering L} {f : K → L} {Good : K → Type 0} (count : ℕ) (ended : Ended) (old new : K) (from left to given : List Event) → Follows answers plain f Good → Good old
-    → EndsBehind answers count ended old new from left to given → EndsBehind plain count ended (f old) (f new) from left to given
-ends_map {f = f} count WriteFault old new from left to given follows good h = asks_map follows good h
-ends_map {f = f} count NoPower old new from left to given follows good h = (asks_map follows good h.0, h.1)
-ends_map {f = f} count Left old new from left to given follows good h = (h.0, ap f h.1, h.2)
-ends_map {f = f} count Cut old new from left to given follows good h = (h.0, ap f h.1, h.2)
-ends_map {f = f} count NotProtocol old new from left to given follows good h = (h.0, ap f h.1, h.2)
-ends_map {f = f} count ReadFault old new from left to given follows good h = (h.0, ap f h.1, h.2)
+ends_map : {K L : Type 0} {answers : Answering K} {plain : Answering L} {f : K → L} {Good : K → Type 0} (power : K → Option Bool) (count : ℕ) (ended : Ended) (old new : K) (from left to given : List Event) → Follows answers plain f Good → Good old
+    → EndsBehind answers power count ended old new from left to given → EndsBehind plain (λ _. None) count ended (f old) (f new) from left to given
+ends_map {f = f} power count WriteFault old new from left to given follows good h = asks_map follows good h
+ends_map {f = f} power count NoPower old new from left to given follows good h = (asks_map follows good h.0, h.1, tt)
+ends_map {f = f} power count Left old new from left to given follows good h = (h.0, ap f h.1, h.2)
+ends_map {f = f} power count Cut old new from left to given follows good h = (h.0, ap f h.1, h.2)
+ends_map {f = f} power count NotProtocol old new from left to given follows good h = (h.0, ap f h.1, h.2)
+ends_map {f = f} power count ReadFault old new from left to given follows good h = (h.0, ap f h.1, h.2)
 
-after_map : {K L : Type 0} {answers : Answering K} {plain : Answering L} {f : K → L} {Good : K → Type 0} {ended : Ended} {old new : K} {from left to given : List Event} → Follows answers plain f Good → Good old
-    → EndsAfter answers ended old new from left to given → EndsAfter plain ended (f old) (f new) from left to given
-after_map {f = f} {ended = ended} {new = new} {left = left} {given = given} follows good h = record {
+after_map : {K L : Type 0} {answers : Answering K} {power : K → Option Bool} {plain : Answering L} {f : K → L} {Good : K → Type 0} {ended : Ended} {old new : K} {from left to given : List Event} → Follows answers plain f Good → Good old
+    → EndsAfter answers power ended old new from left to given → EndsAfter plain (λ _. None) ended (f old) (f new) from left to given
+after_map {power = power} {f = f} {ended = ended} {new = new} {left = left} {given = given} follows good h = record {
   count = h.count;
   mid = f h.mid;
   taken = h.taken;
   told_to = h.told_to;
   answered = all_map follows good h.answered;
-  ends = ends_map h.count ended h.mid new h.taken left h.told_to given follows (all_good follows good h.answered) h.ends;
+  ends = ends_map power h.count ended h.mid new h.taken left h.told_to given follows (all_good follows good h.answered) h.ends;
 }
 
-pub session_map : {K L : Type 0} {answers : Answering K} {plain : Answering L} {f : K → L} {Good : K → Type 0} {size : ℕ} {ended : Ended} {old new : K} {from left to given : List Event} → Follows answers plain f Good
-    → Good old → Session answers size ended old new from left to given → Session plain size ended (f old) (f new) from left to given
+pub session_map : {K L : Type 0} {answers : Answering K} {power : K → Option Bool} {plain : Answering L} {f : K → L} {Good : K → Type 0} {size : ℕ} {ended : Ended} {old new : K} {from left to given : List Event} → Follows answers plain f Good
+    → Good old → Session answers power size ended old new from left to given → Session plain (λ _. None) size ended (f old) (f new) from left to given
 session_map {f = f} follows good (unmet ends same) = unmet ends (ap f same)
 session_map follows good (met agrees after) = met agrees (after_map follows good after)
 
@@ -128,8 +128,8 @@ pub device_length : {D C F : Type 0} (state : D → DieState) (meaning : C → M
 device_length state meaning device disk is = length_told disk.plan disk.size (holding state meaning device disk) is.told
 
 pub device_sessions : {D C F : Type 0} (state : D → DieState) (meaning : C → Meaning) (device : F → DeviceValue) (disk last : DeviceDisk D C F) (ended : Ended) (from left to given : List Event) → IsDeviceDisk state meaning device disk
-    → Session (DeviceAnswers state meaning device) disk.size ended disk last from left to given
-    → Session (AnswersPlainly (HasSoundCells state meaning device disk) disk.size (sector_bytes_of state meaning device disk)) disk.size ended (disk_bytes state meaning device disk) (disk_bytes state meaning device last) from left to given
+    → Session (DeviceAnswers state meaning device) (power_of state device) disk.size ended disk last from left to given
+    → Session (AnswersPlainly (HasSoundCells state meaning device disk) disk.size (sector_bytes_of state meaning device disk)) (λ _. None) disk.size ended (disk_bytes state meaning device disk) (disk_bytes state meaning device last) from left to given
 device_sessions state meaning device disk last ended from left to given is session =
     let held : Option Holding = holding state meaning device disk in
     session_map (device_follows state meaning device disk.plan disk.size (sector_bytes_on held) (HasSoundCells state meaning device disk) (size_told disk.plan disk.size held is.told))

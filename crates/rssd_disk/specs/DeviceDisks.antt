@@ -1,5 +1,5 @@
 -- A disk over a device: what it needs, how it answers, and the bytes that it has.
-use Rattle.std.specs.Prelude.{◌≡◌, ℕ, List, Option}
+use Rattle.std.specs.Prelude.{◌≡◌, ℕ, Bool, List, Option}
 use Rattle.cell_die.specs.DieState.{DieState}
 use Rattle.nbd_wire.specs.declared.reply.Errno.{Errno}
 use Rattle.nbd_wire.specs.declared.request.Request.{Request}
@@ -7,7 +7,7 @@ use Rattle.striped.specs.Meaning.{Meaning}
 use Rattle.rssd_core.specs.DeviceValue.{DeviceValue}
 use Rattle.rssd_disk.specs.declared.device_disk.DeviceDisk.{DeviceDisk}
 use Rattle.rssd_disk.specs.DeviceBytes.{bytes_on, HasSound, sector_bytes_on}
-use Rattle.rssd_disk.specs.Held.{Holding, held_by, IsHeld, IsPlanned, IsTold, AnswersHeld}
+use Rattle.rssd_disk.specs.Held.{Holding, held_by, power_held, IsHeld, IsPlanned, IsTold, AnswersHeld}
 
 -- what it holds
 abbrev pub holding : {D C F : Type 0} → (D → DieState) → (C → Meaning) → (F → DeviceValue) → DeviceDisk D C F → Option Holding
@@ -36,3 +36,7 @@ HasSoundCells state meaning device disk = HasSound disk.plan (holding state mean
 -- the bytes of its sectors
 abbrev pub sector_bytes_of : {D C F : Type 0} → (D → DieState) → (C → Meaning) → (F → DeviceValue) → DeviceDisk D C F → ℕ
 sector_bytes_of state meaning device disk = sector_bytes_on (holding state meaning device disk)
+
+-- whether its die has power, where that tells it
+abbrev pub power_of : {D C F : Type 0} → (D → DieState) → (F → DeviceValue) → DeviceDisk D C F → Option Bool
+power_of state device disk = power_held state device disk.mounted disk.closed

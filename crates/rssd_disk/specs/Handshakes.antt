@@ -1,5 +1,5 @@
 -- What is said before the requests: the greeting and the client's flags, and then options, each answered once, in its order.
-use Rattle.std.specs.Prelude.{◌≡◌, ◌≢◌, ◌↔◌, ℕ, ◌+◌, ◌-◌, ◌^◌, ◌<◌, ◌≤◌, ◌==◌, Bool, true, false, IsTrue, if◌then◌else◌, bit_and, List, [], ◌∷◌, ◌++◌, length, replicate, ◌⊎◌}
+use Rattle.std.specs.Prelude.{◌≡◌, ◌≢◌, ◌↔◌, ℕ, ◌+◌, ◌-◌, ◌^◌, ◌<◌, ◌≤◌, ◌==◌, Bool, true, false, IsTrue, Option, if◌then◌else◌, bit_and, List, [], ◌∷◌, ◌++◌, length, replicate, ◌⊎◌}
 use Rattle.std.specs.Int.{from_be_bytes, w32}
 use Rattle.nbd_wire.specs.declared.answer.Answer.{Answer}
 use Rattle.nbd_wire.specs.declared.answer.Answer.TheVariants.{Acknowledged, Named, Told, Unsupported, Invalid}
@@ -193,6 +193,6 @@ pub data EndsHandshake (size : ℕ) (ended : Ended) (from left to given : List E
   at_option : {flags : ℕ} {taken greeted : List Event} → Greets flags from taken to greeted → EndsOn size flags ended taken left greeted given → EndsHandshake size ended from left to given
 
 -- A session: its handshake, and then its requests. Where no requests follow the disk is as it was.
-pub data Session {K : Type 0} (answers : Answering K) (size : ℕ) (ended : Ended) (disk last : K) (from left to given : List Event) : Type 0 where
-  unmet : EndsHandshake size ended from left to given → last ≡ disk → Session answers size ended disk last from left to given
-  met : {taken told_so_far : List Event} → Agrees size from taken to told_so_far → EndsAfter answers ended disk last taken left told_so_far given → Session answers size ended disk last from left to given
+pub data Session {K : Type 0} (answers : Answering K) (power : K → Option Bool) (size : ℕ) (ended : Ended) (disk last : K) (from left to given : List Event) : Type 0 where
+  unmet : EndsHandshake size ended from left to given → last ≡ disk → Session answers power size ended disk last from left to given
+  met : {taken told_so_far : List Event} → Agrees size from taken to told_so_far → EndsAfter answers power ended disk last taken left told_so_far given → Session answers power size ended disk last from left to given

@@ -1,6 +1,6 @@
 -- What a disk over a device holds: a mounted device, or a die with its scheme.
-use Rattle.std.specs.Prelude.{◌≡◌, ℕ, ◌*◌, List, Option, None, Some, IsSome, true, false}
-use Rattle.cell_die.specs.DieState.{DieState}
+use Rattle.std.specs.Prelude.{◌≡◌, ℕ, ◌*◌, Bool, List, Option, None, Some, IsSome, true, false}
+use Rattle.cell_die.specs.DieState.{DieState, Failures}
 use Rattle.nbd_wire.specs.declared.reply.Errno.{Errno}
 use Rattle.nbd_wire.specs.declared.reply.Errno.TheVariants.{InputOutput}
 use Rattle.nbd_wire.specs.declared.request.Request.{Request}
@@ -97,3 +97,15 @@ pub record AsksNone (old new : Option Holding) (before after : List ℕ) (reply 
 abbrev pub AnswersHeld : {D C F : Type 0} → (D → DieState) → (C → Meaning) → (F → DeviceValue) → Plan → Option F → Option (D × C) → Option F → Option (D × C) → Request → List ℕ → List ℕ → Errno → Type 0
 AnswersHeld state meaning device plan mounted closed None left r before after reply = AsksNone (held_by state meaning device mounted closed) (held_by state meaning device None left) before after reply
 AnswersHeld state meaning device plan mounted closed (Some ftl) left r before after reply = AskedOf (ComesFrom state meaning device plan mounted closed) r before after reply (device ftl)
+
+-- ---- power
+
+-- whether there is power, where a die tells it
+abbrev pub power_told : Option Failures → Option Bool
+power_told None = None
+power_told (Some failures) = Some failures.powered
+
+abbrev pub power_held : {D C F : Type 0} → (D → DieState) → (F → DeviceValue) → Option F → Option (D × C) → Option Bool
+power_held state device (Some ftl) closed = power_told (device ftl).view.die.failures
+power_held state device None (Some held) = power_told (state held.0).failures
+power_held state device None None = None

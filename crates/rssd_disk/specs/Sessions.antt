@@ -1,5 +1,5 @@
 -- Requests that are answered one after another.
-use Rattle.std.specs.Prelude.{◌≡◌, ◌≢◌, ◌⊎◌, ℕ, ◌+◌, ◌-◌, ◌^◌, ◌≤◌, List, [], ◌∷◌, ◌++◌, length}
+use Rattle.std.specs.Prelude.{◌≡◌, ◌≢◌, ◌⊎◌, ℕ, ◌+◌, ◌-◌, ◌^◌, ◌≤◌, Bool, true, false, Option, IfSome, List, [], ◌∷◌, ◌++◌, length}
 use Rattle.nbd_wire.specs.declared.command.Command.{Command}
 use Rattle.nbd_wire.specs.declared.command.Command.TheVariants.{Read, Write, Disconnect}
 use Rattle.nbd_wire.specs.declared.reply.Errno.{Errno}
@@ -61,15 +61,16 @@ pub record Asks {K : Type 0} (answers : Answering K) (disk next : K) (from left 
   pub reply : Errno
   pub asked : answers disk next request before after reply
 
--- and answered, once and with its handle
-pub record AnswersOne {K : Type 0} (answers : Answering K) (disk next : K) (from left to given : List Event) : Type 0 where
+-- and answered, once and with its handle; where the power is told, it is there
+pub record AnswersOne {K : Type 0} (answers : Answering K) (power : K → Option Bool) (disk next : K) (from left to given : List Event) : Type 0 where
   pub asks : Asks answers disk next from left
+  pub powered : IfSome (power next) (λ there. there ≡ true)
   pub replied : given ≡ to ++ moved (reply_to asks.request asks.reply asks.after) ∷ []
 
 -- so many requests were answered, each once, in their order
-pub data AnswersAll {K : Type 0} (answers : Answering K) (disk : K) (from to : List Event) : ℕ → K → List Event → List Event → Type 0 where
-  none : AnswersAll answers disk from to 0 disk from to
-  more : {count : ℕ} {mid next : K} {left rest given all : List Event} → AnswersAll answers disk from to count mid left given → AnswersOne answers mid next left rest given all → AnswersAll answers disk from to (count + 1) next rest all
+pub data AnswersAll {K : Type 0} (answers : Answering K) (power : K → Option Bool) (disk : K) (from to : List Event) : ℕ → K → List Event → List Event → Type 0 where
+  none : AnswersAll answers power disk from to 0 disk from to
+  more : {count : ℕ} {mid next : K} {left rest given all : List Event} → AnswersAll answers power disk from to count mid left given → AnswersOne answers power mid next left rest given all → AnswersAll answers power disk from to (count + 1) next rest all
 
 -- so many bytes were taken as a request's head has, and they are none
 pub record TakesNoRequest (from left : List Event) : Type 0 where
@@ -92,22 +93,22 @@ NoRequest Left from left = TakesLeave from left
 NoRequest ended from left = HasStopped ended left
 
 -- How the next request is not answered: where it did not come whole, is not the protocol or says that the client leaves, the disk is
--- as it was and nothing is given; else it was asked of the disk, and the reply was not given.
-abbrev pub EndsSo : {K : Type 0} → Answering K → Ended → K → K → List Event → List Event → List Event → List Event → Type 0
-EndsSo answers WriteFault disk next from left to given = Asks answers disk next from left
-EndsSo answers NoPower disk next from left to given = Asks answers disk next from left × (given ≡ to)
-EndsSo answers ended disk next from left to given = NoRequest ended from left × (next ≡ disk) × (given ≡ to)
+-- as it was and nothing is given; else it was asked of the disk, and the reply was not given. Where the power is told, it is gone.
+abbrev pub EndsSo : {K : Type 0} → Answering K → (K → Option Bool) → Ended → K → K → List Event → List Event → List Event → List Event → Type 0
+EndsSo answers power WriteFault disk next from left to given = Asks answers disk next from left
+EndsSo answers power NoPower disk next from left to given = Asks answers disk next from left × (given ≡ to) × IfSome (power next) (λ there. there ≡ false)
+EndsSo answers power ended disk next from left to given = NoRequest ended from left × (next ≡ disk) × (given ≡ to)
 
 -- the same after so many requests: more are not taken
-abbrev pub EndsBehind : {K : Type 0} → Answering K → ℕ → Ended → K → K → List Event → List Event → List Event → List Event → Type 0
-EndsBehind answers count NotProtocol disk next from left to given = (TakesNoRequest from left ⊎ (count ≡ 2 ^ 64 - 1)) × (next ≡ disk) × (given ≡ to)
-EndsBehind answers count ended disk next from left to given = EndsSo answers ended disk next from left to given
+abbrev pub EndsBehind : {K : Type 0} → Answering K → (K → Option Bool) → ℕ → Ended → K → K → List Event → List Event → List Event → List Event → Type 0
+EndsBehind answers power count NotProtocol disk next from left to given = (TakesNoRequest from left ⊎ (count ≡ 2 ^ 64 - 1)) × (next ≡ disk) × (given ≡ to)
+EndsBehind answers power count ended disk next from left to given = EndsSo answers power ended disk next from left to given
 
 -- requests were answered, and the next was not
-pub record EndsAfter {K : Type 0} (answers : Answering K) (ended : Ended) (disk last : K) (from left to given : List Event) : Type 0 where
+pub record EndsAfter {K : Type 0} (answers : Answering K) (power : K → Option Bool) (ended : Ended) (disk last : K) (from left to given : List Event) : Type 0 where
   pub count : ℕ
   pub mid : K
   pub taken : List Event
   pub told_to : List Event
-  pub answered : AnswersAll answers disk from to count mid taken told_to
-  pub ends : EndsBehind answers count ended mid last taken left told_to given
+  pub answered : AnswersAll answers power disk from to count mid taken told_to
+  pub ends : EndsBehind answers power count ended mid last taken left told_to given

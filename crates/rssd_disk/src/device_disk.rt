@@ -1,5 +1,5 @@
 //! A device as a disk: after a failed change call, which stops the device, it is mounted again before the next request.
-ghost use Rattle.std.specs.Prelude.{◌≡◌, ◌↔◌, ℕ, List, IfOk, IfSome, IfNone, IsTrue, length};
+ghost use Rattle.std.specs.Prelude.{◌≡◌, ◌↔◌, ℕ, Bool, List, Option, None, IfOk, IfSome, IfNone, IsTrue, length};
 ghost use Rattle.nbd_wire.specs.declared.request.Request.{Request as Asked};
 ghost use Rattle.nbd_wire.specs.declared.reply.Errno.{Errno as Reply};
 ghost use Rattle.rssd_core.specs.Mount.{numbers_of};
@@ -7,7 +7,7 @@ ghost use Rattle.rssd_io.specs.Event.{Event};
 ghost use Rattle.rssd_disk.specs.declared.device_disk.DeviceDisk.{DeviceDisk as Served};
 ghost use Rattle.rssd_disk.specs.declared.serving.Ended.{Ended as End};
 ghost use Rattle.rssd_disk.specs.DeviceBytes.{bytes_of_cells};
-ghost use Rattle.rssd_disk.specs.DeviceDisks.{holding, IsDeviceDisk, DeviceAnswers, disk_bytes, HasSoundCells, sector_bytes_of};
+ghost use Rattle.rssd_disk.specs.DeviceDisks.{holding, IsDeviceDisk, DeviceAnswers, disk_bytes, HasSoundCells, sector_bytes_of, power_of};
 ghost use Rattle.rssd_disk.specs.Handshakes.{Session};
 ghost use Rattle.rssd_disk.specs.Held.{IsHeld, IsReady, SameHeld, Runs, Gives, ComesFrom};
 ghost use Rattle.rssd_disk.specs.PlainServer.{AnswersPlainly};
@@ -43,8 +43,12 @@ pub trait Disk {
         ensures held { held self.new }
         ensures answered { answers self.old self.new request.now bytes.old bytes.new result };
 
+    /// Whether the machine has power, where that is told.
+    ghost power: { Self → Option Bool };
+
     /// Whether the machine still has power: without it, nothing is answered.
-    fn has_power(&self) -> bool;
+    fn has_power(&self) -> bool
+        ensures { IfSome (power self.now) (λ there. result ≡ there) };
 }
 
 /// How writes were answered since the last mount, and the sum of the die's erase counts.
@@ -146,13 +150,15 @@ impl<D: PowerDie + Drop, C: Scheme + Drop, F: Device<D, C>> DeviceDisk<D, C, F> 
 }
 
 impl<D: PowerDie + Drop, C: Scheme + Drop, F: Device<D, C>> Disk for DeviceDisk<D, C, F> {
-    ghost use Rattle.rssd_disk.specs.DeviceDisks.{IsDeviceDisk, DeviceAnswers};
+    ghost use Rattle.rssd_disk.specs.DeviceDisks.{IsDeviceDisk, DeviceAnswers, power_of};
 
     ghost held = { IsDeviceDisk D.state C.meaning F.device };
 
     ghost answers = { DeviceAnswers D.state C.meaning F.device };
 
     ghost byte_count = { λ s. s.size };
+
+    ghost power = { power_of D.state F.device };
 
     fn size(&self) -> u64 {
         self.size
@@ -183,7 +189,7 @@ impl<D: PowerDie + Drop, C: Scheme + Drop, F: Device<D, C>> Disk for DeviceDisk<
 pub fn sessions_are_those_of_a_plain_server<D: PowerDie + Drop, C: Scheme + Drop, F: Device<D, C>>()
     ensures whole { (disk : Served D C F) → IsDeviceDisk D.state C.meaning F.device disk → length (disk_bytes D.state C.meaning F.device disk) ≡ disk.size }
     ensures plain { (disk last : Served D C F) (ended : End) (from left to given : List Event) → IsDeviceDisk D.state C.meaning F.device disk
-        → Session (DeviceAnswers D.state C.meaning F.device) disk.size ended disk last from left to given
-        → Session (AnswersPlainly (HasSoundCells D.state C.meaning F.device disk) disk.size (sector_bytes_of D.state C.meaning F.device disk)) disk.size ended
+        → Session (DeviceAnswers D.state C.meaning F.device) (power_of D.state F.device) disk.size ended disk last from left to given
+        → Session (AnswersPlainly (HasSoundCells D.state C.meaning F.device disk) disk.size (sector_bytes_of D.state C.meaning F.device disk)) (λ bytes. None) disk.size ended
         (disk_bytes D.state C.meaning F.device disk) (disk_bytes D.state C.meaning F.device last) from left to given }
 {}

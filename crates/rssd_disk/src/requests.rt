@@ -103,8 +103,8 @@ fn answer_one<K: Disk, I: Source, O: Sink>(
     requires held { K.held disk.old }
     requires room { length room.old ≡ 1048592 }
     ensures held { K.held disk.new }
-    ensures answers { OnOk result (AnswersOne K.answers disk.old disk.new (I.log from.old) (I.log from.new) (O.log to.old) (O.log to.new)) }
-    ensures ends { IfErr result (λ ended. EndsSo K.answers ended disk.old disk.new (I.log from.old) (I.log from.new) (O.log to.old) (O.log to.new)) }
+    ensures answers { OnOk result (AnswersOne K.answers K.power disk.old disk.new (I.log from.old) (I.log from.new) (O.log to.old) (O.log to.new)) }
+    ensures ends { IfErr result (λ ended. EndsSo K.answers K.power ended disk.old disk.new (I.log from.old) (I.log from.new) (O.log to.old) (O.log to.new)) }
 {
     let request = take_request(from)?;
     if let Command::Disconnect = request.command {
@@ -130,7 +130,7 @@ pub(crate) fn answer_all<K: Disk, I: Source, O: Sink>(
     requires held { K.held disk.old }
     requires room { length room.old ≡ 1048592 }
     ensures held { K.held disk.new }
-    ensures answers { EndsAfter K.answers result disk.old disk.new (I.log from.old) (I.log from.new) (O.log to.old) (O.log to.new) }
+    ensures answers { EndsAfter K.answers K.power result disk.old disk.new (I.log from.old) (I.log from.new) (O.log to.old) (O.log to.new) }
 {
     let mut answered = 0;
     while answered < u64::MAX {

@@ -37,7 +37,7 @@ pub fn serve<K: Disk, I: Source, O: Sink>(
     requires held { K.held disk.old }
     requires room { length room.old ≡ 1048592 }
     ensures held { K.held disk.new }
-    ensures session { Session K.answers (K.byte_count disk.old) result disk.old disk.new (I.log from.old) (I.log from.new) (O.log to.old) (O.log to.new) }
+    ensures session { Session K.answers K.power (K.byte_count disk.old) result disk.old disk.new (I.log from.old) (I.log from.new) (O.log to.old) (O.log to.new) }
 {
     match greet(from, to, room, disk.size()) {
         Ok(()) => answer_all(alloc, disk, from, to, room),
