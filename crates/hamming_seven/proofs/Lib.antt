@@ -1,2 +1,4 @@
+pub mod ChunkLemmas
+pub mod FirstTable
 pub mod StageLemmas
 pub mod TableLemmas

@@ -1,8 +1,8 @@
 -- Three bits in seven cells.
-use Rattle.std.specs.Prelude.{◌≡◌, ℕ, ◌+◌, ◌⊎◌, Bool, true, false, not, ◌&&◌, if◌then◌else◌, List, [], ◌∷◌, length, nat_eq, nat_lt, bit_xor, refl}
+use Rattle.std.specs.Prelude.{◌≡◌, ℕ, ◌+◌, ◌⊎◌, Bool, true, false, not, ◌&&◌, if◌then◌else◌, List, [], ◌∷◌, length, map, nat_eq, nat_lt, bit_xor, refl}
 use Rattle.std.proofs.Common.{arith}
 use Rattle.std.specs.Int.{bit_at}
-use Rattle.wom_code.specs.Cells.{Carries}
+use Rattle.wom_code.specs.Cells.{cell_at, Carries}
 
 -- the sum over GF(2) of the columns of the charged cells; the first cell has the given column, and each later one the next
 abbrev pub sum_from : ℕ → List Bool → ℕ
@@ -37,6 +37,14 @@ comes_before xs ys = if nat_lt (length xs) (length ys) then true else (if nat_lt
 abbrev pub IsFirst : List Bool → List Bool → List Bool → Type 0
 IsFirst old message new =
     (cells : List Bool) → length cells ≡ 7 → Carries message_of old message cells → (cells ≡ new) ⊎ (comes_before (added_from 0 old new) (added_from 0 old cells) ≡ true)
+
+-- the number whose bits are the message
+abbrev pub column_of : List Bool → ℕ
+column_of message = (if cell_at message 0 then 1 else 0) + ((if cell_at message 1 then 2 else 0) + (if cell_at message 2 then 4 else 0))
+
+-- the word of a message over blank cells: the one cell with that column, or none
+abbrev pub first_of : List Bool → List Bool
+first_of message = map (λ column. nat_eq column (column_of message)) (1 ∷ 2 ∷ 3 ∷ 4 ∷ 5 ∷ 6 ∷ 7 ∷ [])
 
 -- each message has a word: no cell, or the one cell with that column
 pub word_for : (message : List Bool) → length message ≡ 3 → (cells : List Bool) × (length cells ≡ 7) × (message_of cells ≡ message)

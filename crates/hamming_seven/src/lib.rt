@@ -8,8 +8,11 @@ ghost use Rattle.wom_code.specs.Packed.{IsRow, cells_of, words_for};
 ghost use Rattle.hamming_seven.specs.Stages.{blank, IsStageOne, IsStageTwo};
 ghost use Rattle.hamming_seven.specs.Words.{message_of, IsFirst};
 
+mod chunks;
+mod first;
 mod tables;
 
+use crate::chunks::{decode_chunks, over_chunks};
 use crate::tables::{MESSAGE, NEXT, NONE};
 use wom_code::{Carry, FromBlank, PackedCode, WomCode, pack, unpack};
 
@@ -89,6 +92,14 @@ impl PackedCode<3, 7> for HammingSeven {
         }
         out[0] = next;
         Carry::Carried
+    }
+
+    fn decode_group(&self, _count: usize, cells: u64) -> u64 {
+        decode_chunks(cells)
+    }
+
+    fn over_group(&mut self, count: usize, cells: u64, messages: u64) -> Option<u64> {
+        over_chunks(count, cells, messages)
     }
 }
 

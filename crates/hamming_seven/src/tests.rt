@@ -1,7 +1,7 @@
 //! The two tables against a search over all words, and the worked words.
 
 use crate::HammingSeven;
-use wom_code::{Carry, WomCode};
+use wom_code::{Carry, PackedCode, WomCode};
 
 /// The cells of a word, cell 0 first.
 fn cells_of(word: u8) -> [bool; 7] {
@@ -81,5 +81,39 @@ fn three_worked_writes_and_a_full_word(rt: HostRuntime) {
         let mut out = [false; 7];
         let answer = HammingSeven::new().over(&cells_of(old), &bits_of(message), &mut out);
         assert_eq!(rt; (answer, out), (carry, cells_of(word)));
+    }
+}
+
+#[test]
+fn every_old_word_and_message_in_each_place_of_a_group(rt: HostRuntime) {
+    for place in 0..9usize {
+        for old in 0..128u8 {
+            for message in 0..8u8 {
+                let cells = (old as u64) << (7 * place);
+                let messages = (message as u64) << (3 * place);
+                let new = best(old, message).map(|word| (word as u64) << (7 * place));
+                assert_eq!(rt; HammingSeven::new().over_group(9, cells, messages), new);
+            }
+        }
+    }
+}
+
+#[test]
+fn groups_of_nine_eight_and_six_chunks(rt: HostRuntime) {
+    for (count, old, messages, new) in [
+        (9, 0, 0o514017517, Some(0x10022000180400c0)),
+        (9, 0x10022000180400c0, 0o365546123, Some(0x30822481182602c8)),
+        (9, 0x30822481182602c8, 0o547063642, Some(0x71862cc93a3612c9)),
+        (9, 0x71862cc93a3612c9, 0o215737117, Some(0x7da76ecb7b3e5ad9)),
+        (8, 0, 0o75200410, Some(0x80401000020080)),
+        (8, 0x80401000020080, 0o22232666, Some(0xa140104042a0a0)),
+        (6, 0x1190a17082, 0o646012, Some(0x53b1a1f382)),
+        (6, 0x53b1a1f382, 0o424203, None),
+    ] {
+        let mut code = HammingSeven::new();
+        assert_eq!(rt; code.over_group(count, old, messages), new);
+        if let Some(cells) = new {
+            assert_eq!(rt; code.decode_group(count, cells), messages);
+        }
     }
 }
