@@ -94,7 +94,8 @@ kept_spare {inner} {new} {logical} own own' kept later falls = record {
 }
 
 -- a page that becomes one above the old one
-pub kept_page : {inner new : DieState} {logical : ℕ} (own own' : Own) (page : ℕ) → LeavesTable inner new logical → OwnLater own own' → own'.erases ≡ own.erases → Kept inner new → page < logical * inner.shape.pages
+pub kept_page : {inner new : DieState} {logical : ℕ} (own own' : Own) (page : ℕ) → LeavesTable inner new logical → OwnLater own own' → own'.erases ≡ own.erases → Kept inner new
+    → page < logical * inner.shape.pages
     → OnlyPage (spare_place inner page) inner new → IsAbove (page_of new (spare_place inner page)) (page_of inner (spare_place inner page))
     → Kept (spare_state inner logical own) (spare_state new logical own')
 kept_page {inner} {new} {logical} own own' page leaves later erases kept below only above =
