@@ -23,7 +23,7 @@ use Rattle.spare_die.specs.Book.{IsOrderly, IsCounted}
 use Rattle.spare_die.specs.Tallies.{SameButErases, bad_after}
 use Rattle.spare_die.specs.Entering.{ErasesHome}
 use Rattle.spare_die.proofs.Calls.{LeavesTable, homes_stay}
-use Rattle.spare_die.proofs.Facts.{LeavesFree, SameTable, orderly_leaves, orderly_stopped, place_not_free}
+use Rattle.spare_die.proofs.Facts.{LeavesFree, orderly_leaves, orderly_stopped, place_not_free}
 
 -- the table is in the inner block 0
 pub table_block : (pages page : ℕ) → 0 < pages → page < pages → page / pages < 1
@@ -100,11 +100,12 @@ bad_counted {inner} {bad_erases} {logical} {book} {tally} {counted} o running sa
 abbrev pub answered : Result Erased DieFault → Tally → Tally
 answered result counted = record counted { bad = bad_after result counted.bad; stopped = counted.stopped || is_err result }
 
-same_table : {old new : Tally} {bad : ℕ} {stopped : Bool} → SameButErases old new → stopped ≡ old.stopped → SameTable old (record new { bad = bad; stopped = stopped })
+same_table : {old new : Tally} {stopped : Bool} → SameButErases old new → stopped ≡ old.stopped → SameButErases old (record new { bad = old.bad; stopped = stopped })
 same_table same stopped = record {
-  erases = same.blocks;
+  blocks = same.blocks;
   read_faults = same.read_faults;
   change_faults = same.change_faults;
+  bad = refl;
   written = same.written;
   named_at_opening = same.named_at_opening;
   pages_at_opening = same.pages_at_opening;

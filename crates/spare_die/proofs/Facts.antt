@@ -12,6 +12,7 @@ use Rattle.spare_die.specs.declared.book.Book.{Book}
 use Rattle.spare_die.specs.declared.tally.Tally.{Tally}
 use Rattle.spare_die.specs.Table.{home, HasHomes, is_named, is_named_up_to, is_used, is_gated, reserve_count}
 use Rattle.spare_die.specs.SpareLaws.{home-same}
+use Rattle.spare_die.specs.Tallies.{SameButErases}
 use Rattle.spare_die.specs.Book.{IsOrderly, KeepsFacts, HasRows, IsOrderlyTable, IsBookOf, IsCounted}
 use Rattle.spare_die.proofs.Homes.{names_ungated, home_named}
 use Rattle.spare_die.proofs.Calls.{homes_stay}
@@ -40,15 +41,9 @@ pub record LeavesFree (inner new : DieState) (logical : ℕ) : Type 0 where
   pub table : (page : ℕ) → page < inner.shape.pages → page_of new page ≡ page_of inner page
   pub spares : (block page : ℕ) → logical < block → block < inner.shape.blocks → is_named inner block ≡ false → page / inner.shape.pages ≡ block → page_of new page ≡ page_of inner page
 
--- the counts of the table stay
-pub record SameTable (old new : Tally) : Type 0 where
-  pub erases : length new.erases.items ≡ length old.erases.items
-  pub read_faults : new.read_faults ≡ old.read_faults
-  pub change_faults : new.change_faults ≡ old.change_faults
-  pub written : new.written ≡ old.written
-  pub named_at_opening : new.named_at_opening ≡ old.named_at_opening
-  pub pages_at_opening : new.pages_at_opening ≡ old.pages_at_opening
-  pub stopped : new.stopped ≡ old.stopped
+-- nothing is counted but erases, and those that went bad
+abbrev pub SameCounted : Tally → Tally → Type 0
+SameCounted old new = SameButErases old (record new { bad = old.bad })
 
 -- names stay
 pub named_same : (inner new : DieState) (block : ℕ) → new.shape ≡ inner.shape → ((page : ℕ) → page < inner.shape.pages → page_of new page ≡ page_of inner page)
@@ -61,7 +56,7 @@ used_same inner new page same = ap (λ page. not (is_blank page)) same
 
 -- and the counts of the table
 pub counted_same : {inner new : DieState} {logical : ℕ} {tally tally' : Tally} → new.shape ≡ inner.shape → ((page : ℕ) → page < inner.shape.pages → page_of new page ≡ page_of inner page)
-    → SameTable tally tally' → IsCounted inner logical tally → IsCounted new logical tally'
+    → SameCounted tally tally' → IsCounted inner logical tally → IsCounted new logical tally'
 counted_same {inner} {new} {logical} {tally} {tally'} shape table same counted = record {
   named =
       ap (λ (shape : Shape). count_by (is_named new) (range_with_len (1 + logical) (shape.blocks - (1 + logical)))) shape
@@ -78,12 +73,12 @@ rows_same {inner} {new} {logical} {book} shape rows = record { homes = rows.home
 
 -- such a call leaves what the die knows
 pub orderly_leaves : {inner new : DieState} {bad_erases bad_erases' logical : ℕ} {book : Book} {tally tally' : Tally} → IsOrderly inner bad_erases logical book tally → LeavesFree inner new logical
-    → new.change_faults ≡ inner.change_faults → SameTable tally tally' → tally'.written ≤ tally'.bad → (tally.written < tally.bad → tally'.written < tally'.bad) → tally'.bad ≤ bad_erases'
+    → new.change_faults ≡ inner.change_faults → SameCounted tally tally' → tally'.written ≤ tally'.bad → (tally.written < tally.bad → tally'.written < tally'.bad) → tally'.bad ≤ bad_erases'
     → IsOrderly new bad_erases' logical book tally'
 orderly_leaves {inner} {new} {bad_erases} {bad_erases'} {logical} {book} {tally} {tally'} o leaves faults same written more counted = record {
   homes = homes_stay (record { shaped = leaves.shaped; homes = o.homes; shape = leaves.shape; table = leaves.table });
   rows = rows_same leaves.shape o.rows;
-  erases = same.erases ∙ o.erases;
+  erases = same.blocks ∙ o.erases;
   bad = counted;
   written = written;
   room = rw leaves.shape (omega (arith, o.room, same.written, same.named_at_opening));

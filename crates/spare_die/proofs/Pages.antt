@@ -22,7 +22,7 @@ use Rattle.spare_die.specs.Tallies.{OwnLater}
 use Rattle.spare_die.specs.Book.{IsOrderly}
 use Rattle.spare_die.specs.SpareLaws.{place_inside, place_block, logical_inside}
 use Rattle.spare_die.proofs.Calls.{LeavesTable, leaves_table, homes_stay, place-same, only_page_spare, page_before, page_after, kept_page, kept_spare}
-use Rattle.spare_die.proofs.Facts.{LeavesFree, SameTable, orderly_leaves, orderly_stopped, place_not_free}
+use Rattle.spare_die.proofs.Facts.{LeavesFree, SameCounted, orderly_leaves, orderly_stopped, place_not_free}
 
 -- a logical page and its place
 pub record PlaceOf (inner : DieState) (logical page place : ℕ) : Type 0 where
@@ -135,8 +135,8 @@ page_change {R} {S} {T} {E} {result} {inner} {new} {logical} {page} {place} own 
   now = page_after own page leaves at.below ∙ ap (page_of new) (sym at.is)
 
 -- what the die knows after it: it has stopped where the call failed
-same_tally : (tally : Tally) (stopped : Bool) → stopped ≡ tally.stopped → SameTable tally (record tally { stopped = stopped })
-same_tally tally stopped same = record { erases = refl; read_faults = refl; change_faults = refl; written = refl; named_at_opening = refl; pages_at_opening = refl; stopped = same }
+same_tally : (tally : Tally) (stopped : Bool) → stopped ≡ tally.stopped → SameCounted tally (record tally { stopped = stopped })
+same_tally tally stopped same = record { blocks = refl; read_faults = refl; change_faults = refl; bad = refl; written = refl; named_at_opening = refl; pages_at_opening = refl; stopped = same }
 
 pub orderly_passed : {inner new : DieState} {bad_erases bad_erases' logical : ℕ} {book : Book} {tally : Tally} (stopped : Bool) → stopped ≡ tally.stopped
     → IsOrderly inner bad_erases logical book tally → LeavesFree inner new logical → new.change_faults ≡ inner.change_faults → bad_erases' ≡ bad_erases
@@ -144,8 +144,8 @@ pub orderly_passed : {inner new : DieState} {bad_erases bad_erases' logical : �
 orderly_passed {inner} {new} {bad_erases} {bad_erases'} {logical} {book} {tally} stopped same o leaves faults bad =
     orderly_leaves o leaves faults (same_tally tally stopped same) o.written (λ more. more) (omega (arith, o.bad))
 
-pub orderly_called : {R S : List ℕ → List ℕ
-    → Type 0} {T E : Type 0} (result : Result T E) {stopped : Bool} {inner new : DieState} {bad_erases bad_erases' logical page place : ℕ} {book : Book} {tally : Tally}
+pub orderly_called : {R S : List ℕ → List ℕ → Type 0} {T E : Type 0} (result : Result T E) {stopped : Bool} {inner new : DieState}
+    {bad_erases bad_erases' logical page place : ℕ} {book : Book} {tally : Tally}
     → stopped ≡ is_err result → IsOrderly inner bad_erases logical book tally → tally.stopped ≡ false → PlaceOf inner logical page place → PageChange R S place result inner new
     → bad_erases' ≡ bad_erases → IsOrderly new bad_erases' logical book (record tally { stopped = stopped })
 orderly_called (Ok value) {stopped} is o running at call bad = orderly_passed stopped (is ∙ sym running) o (page_free at call.kept.shape call.only) call.passed.change_faults bad
