@@ -150,12 +150,21 @@ pub record Called (kind : Kind) (at : ℕ) {T E : Type 0} (result : Result T E) 
   pub passed : OnOk result (Passed kind.changes kind.reads old new)
   pub failed : OnErr result (kind.failed old new)
 
--- and all that a call of a pair says
+pub called : {kind : Kind} {at : ℕ} {T E : Type 0} {result : Result T E} {old new : DieState} → OnOk result (kind.did at old new) → OnErr result (kind.part at old new) → kind.only at old new
+    → Kept old new → OnOk result (Passed kind.changes kind.reads old new) → OnErr result (kind.failed old new) → Called kind at result old new
+called did part only kept passed failed = record { did = did; part = part; only = only; kept = kept; passed = passed; failed = failed }
+
+-- and all that a call of a pair says: `went` and `fell` of the one die, too
 pub record PairCalled (kind : Kind) (place : Half) (at : ℕ) {T E : Type 0} (result : Result T E) (a b a' b' : DieState) : Type 0 where
-  pub call : Called kind at result (pair_state a b) (pair_state a' b')
-  pub unpowered : HeldWithoutPower (pair_state a b) (pair_state a' b')
-  pub one_passed : OnOk result (OnOne place (Passed kind.changes kind.reads) a b a' b')
-  pub one_failed : OnErr result (OnOne place kind.failed a b a' b')
+  pub did : OnOk result (kind.did at (pair_state a b) (pair_state a' b'))
+  pub part : OnErr result (kind.part at (pair_state a b) (pair_state a' b'))
+  pub only : kind.only at (pair_state a b) (pair_state a' b')
+  pub kept : Kept (pair_state a b) (pair_state a' b')
+  pub passed : OnOk result (Passed kind.changes kind.reads (pair_state a b) (pair_state a' b'))
+  pub failed : OnErr result (kind.failed (pair_state a b) (pair_state a' b'))
+  pub held : HeldWithoutPower (pair_state a b) (pair_state a' b')
+  pub went : OnOk result (OnOne place (Passed kind.changes kind.reads) a b a' b')
+  pub fell : OnErr result (OnOne place kind.failed a b a' b')
 
 -- a kind of call does to the pair what it does to the die
 record Lifts (kind : Kind) (place : Half) (at : ℕ) (a b a' b' : DieState) : Type 0 where
@@ -179,14 +188,14 @@ pair_called kind place at (Ok value) {a} {b} {a'} {b'} lifts call =
     let one : CallAt place (Passed kind.changes kind.reads) a b a' b' = weaker place call (λ old new called. called.passed) in
     let passed : Passed kind.changes kind.reads (pair_state a b) (pair_state a' b') = pair_passed kind.changes kind.reads place one (lifts.changed did only kept.shape) in
     let held : HeldWithoutPower (pair_state a b) (pair_state a' b') = held (Nearer kind.changes kind.reads) a.failures b.failures (pair_state a' b').failures passed.failures in
-    record { call = record { did = did; part = tt; only = only; kept = kept; passed = passed; failed = tt }; unpowered = held; one_passed = one.holds; one_failed = tt }
+    record { did = did; part = tt; only = only; kept = kept; passed = passed; failed = tt; held = held; went = one.holds; fell = tt }
 pair_called kind place at (Err fault) {a} {b} {a'} {b'} lifts call =
     let part : kind.part at (pair_state a b) (pair_state a' b') = lifts.part (weaker place call (λ old new called. called.part)) in
     let only : kind.only at (pair_state a b) (pair_state a' b') = lifts.only (weaker place call (λ old new called. called.only)) in
     let kept : Kept (pair_state a b) (pair_state a' b') = kept_pair place (weaker place call (λ old new called. called.kept)) in
     let one : CallAt place kind.failed a b a' b' = weaker place call (λ old new called. called.failed) in
     let failed : kind.failed (pair_state a b) (pair_state a' b') = lifts.failed one in
-    record { call = record { did = tt; part = part; only = only; kept = kept; passed = tt; failed = failed }; unpowered = lifts.held failed; one_passed = tt; one_failed = one.holds }
+    record { did = tt; part = part; only = only; kept = kept; passed = tt; failed = failed; held = lifts.held failed; went = tt; fell = one.holds }
 
 -- a call of the first die, and one of the second
 pub call_first : {kind : Kind} {place : Half} {n : ℕ} {T E : Type 0} {result : Result T E} {a b a' : DieState} → Halves a b → IsShaped a' → First n ≡ place
