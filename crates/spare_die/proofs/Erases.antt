@@ -14,7 +14,7 @@ use Rattle.spare_die.specs.Spare.{Own, spare_state, spare_place}
 use Rattle.spare_die.specs.SpareLaws.{place_block, place_past_table, page_of-spare, page_of-spare_past, logical_inside}
 use Rattle.spare_die.specs.Tallies.{OwnLater, CountsUp}
 use Rattle.spare_die.specs.Entering.{Renews}
-use Rattle.spare_die.proofs.Calls.{kept_spare}
+use Rattle.spare_die.proofs.Calls.{kept_spare, same_place}
 
 -- what an erase of a logical block does to the inner die and to the counts
 pub record Erasure (inner new : DieState) (logical block : ℕ) (own own' : Own) : Type 0 where
@@ -29,9 +29,7 @@ module _ {inner new : DieState} {logical block : ℕ} {own own' : Own} (erasure 
 
   -- the place of a page of another block stays
   place_of_other : (page : ℕ) → page / inner.shape.pages ≢ block → spare_place new page ≡ spare_place inner page
-  place_of_other page apart =
-      ap (λ (shape : Shape). home new (page / shape.pages) * shape.pages + page % shape.pages) renews.shape
-      ∙ ap (λ home. home * inner.shape.pages + page % inner.shape.pages) (renews.others (page / inner.shape.pages) apart)
+  place_of_other page apart = same_place inner new page renews.shape (renews.others (page / inner.shape.pages) apart)
 
   pub only_block_spare : OnlyBlock block (spare_state inner logical own) (spare_state new logical own')
   only_block_spare = record {
@@ -50,7 +48,7 @@ module _ {inner new : DieState} {logical block : ℕ} {own own' : Own} (erasure 
   }
 
   -- the pages of the block
-  in_block : (page : ℕ) → page / inner.shape.pages ≡ block → page < logical * inner.shape.pages
+  pub in_block : (page : ℕ) → page / inner.shape.pages ≡ block → page < logical * inner.shape.pages
   in_block page here = (div-lt_iff_lt-mul {k = inner.shape.pages} {x = page} {y = logical} renews.shaped.some_pages).0 (rw here renews.inside)
 
   place_of_page : (page : ℕ) → page / inner.shape.pages ≡ block → spare_place new page / inner.shape.pages ≡ home new block

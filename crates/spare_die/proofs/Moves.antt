@@ -12,7 +12,8 @@ use Rattle.spare_die.specs.Entering.{ErasesHome, ReplacesHome, IsBlankBlock}
 use Rattle.spare_die.specs.SpareLaws.{home-same, place_block, place_inside, place_past_table}
 use Rattle.cell_die.specs.Calls.{Kept}
 use Rattle.cell_die.proofs.Sequences.{kept_trans}
-use Rattle.spare_die.proofs.Erases.{Erasure}
+use Rattle.spare_die.proofs.Calls.{same_place}
+use Rattle.spare_die.proofs.Erases.{Erasure, in_block}
 use Rattle.spare_die.proofs.Erasing.{table_block}
 
 -- the home of a logical block was erased
@@ -28,11 +29,6 @@ pub record HomeErased (inner mid : DieState) (logical block : ℕ) (own own' : O
 pub home_erased : {inner mid : DieState} {logical block : ℕ} {own own' : Own} → IsShaped inner → HasHomes inner logical → block < logical → ErasesHome inner mid (home inner block) → Kept inner mid
     → CountsUp block own own' → SameFaults own own' → HomeErased inner mid logical block own own'
 home_erased shaped homes inside erases kept counts same = record { shaped = shaped; homes = homes; inside = inside; erases = erases; kept = kept; counts = counts; same = same }
-
-same_place : (inner new : DieState) (page : ℕ) → new.shape ≡ inner.shape → home new (page / inner.shape.pages) ≡ home inner (page / inner.shape.pages) → spare_place new page ≡ spare_place inner page
-same_place inner new page shape same =
-    ap (λ (shape : Shape). home new (page / shape.pages) * shape.pages + page % shape.pages) shape
-    ∙ ap (λ at. at * inner.shape.pages + page % inner.shape.pages) same
 
 -- a blank home in the words of the erase
 pub blank_home : (inner new : DieState) (at : ℕ) → new.shape ≡ inner.shape → IsBlankBlock new at → (page : ℕ) → page / inner.shape.pages ≡ at → page_of new page ≡ blank_page (page_bytes inner.shape)
@@ -64,9 +60,6 @@ module _ {inner mid : DieState} {logical block : ℕ} {own own' : Own} (e : Home
   }
 
   -- a page of the block, and its places
-  page_inside : (page : ℕ) → page / inner.shape.pages ≡ block → page < logical * inner.shape.pages
-  page_inside page here = (div-lt_iff_lt-mul {k = inner.shape.pages} {x = page} {y = logical} e.shaped.some_pages).0 (rw here e.inside)
-
   place_of_block : (page : ℕ) → page / inner.shape.pages ≡ block → spare_place inner page / inner.shape.pages ≡ home inner block
   place_of_block page here = place_block inner page e.shaped.some_pages ∙ ap (home inner) here
 
@@ -129,7 +122,7 @@ module _ {inner mid new : DieState} {logical block : ℕ} {own own' own'' : Own}
       → IsAbove (page_of inner (spare_place inner page)) (page_of new (spare_place new page))
   below_replaced (inl same) page here =
       let home' : home new (page / inner.shape.pages) ≡ home inner (page / inner.shape.pages) = ap (home new) here ∙ (same ∙ (home_stays r.erased block ∙ ap (home inner) (sym here))) in
-      let past : inner.shape.pages ≤ spare_place inner page = place_past_table inner logical page r.erased.shaped.some_pages r.erased.homes (page_inside r.erased page here) in
+      let past : inner.shape.pages ≤ spare_place inner page = place_past_table inner logical page r.erased.shaped.some_pages r.erased.homes (in_block (erasure_home r.erased) page here) in
       let stays : page_of new (spare_place inner page) ≡ page_of mid (spare_place inner page) = r.replaces.pages (spare_place inner page) (rw r.erased.erases.shape past) in
       rw (same_place inner new page shape_replaced home', stays) (r.erased.erases.below (spare_place inner page) (place_of_block r.erased page here))
   below_replaced (inr blank) page here =
@@ -137,5 +130,5 @@ module _ {inner mid new : DieState} {logical block : ℕ} {own own' own'' : Own}
       let here' : page / new.shape.pages ≡ block = ap (λ (shape : Shape). page / shape.pages) shape_replaced ∙ here in
       let is : page_of new (spare_place new page) ≡ blank_page (page_bytes new.shape) = blank (spare_place new page) (place_block new page some ∙ ap (home new) here') in
       let long : length (page_of inner (spare_place inner page)) ≡ page_bytes inner.shape
-      = r.erased.shaped.lengths (spare_place inner page) (place_inside inner logical page r.erased.shaped.some_pages r.erased.homes (page_inside r.erased page here)) in
+      = r.erased.shaped.lengths (spare_place inner page) (place_inside inner logical page r.erased.shaped.some_pages r.erased.homes (in_block (erasure_home r.erased) page here)) in
       rw is (above_blank (page_of inner (spare_place inner page)) (page_bytes new.shape) (long ∙ ap page_bytes (sym shape_replaced)))

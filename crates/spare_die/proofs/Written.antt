@@ -16,6 +16,7 @@ use Rattle.spare_die.specs.declared.tally.Tally.{Tally}
 use Rattle.spare_die.specs.Table.{home, home_up_to, HasHomes, is_named, is_named_up_to, is_used, is_gated, named_count, used_count}
 use Rattle.spare_die.specs.Book.{IsOrderly, HasRows, IsOrderlyTable, IsBookOf, IsCounted}
 use Rattle.spare_die.specs.Entering.{IsEntry, IsLowest, IsBlankBlock, ReplacesHome}
+use Rattle.spare_die.proofs.Calls.{homes_along}
 use Rattle.spare_die.proofs.Counting.{count_one_more}
 use Rattle.spare_die.proofs.Homes.{homes_ungated, named_after}
 use Rattle.spare_die.proofs.Entries.{MovesHome, homes_after, blank_not_gated}
@@ -119,17 +120,6 @@ module _ {inner new : DieState} {logical named at : ℕ} (call : EntryCall inner
       (λ apart. inl (call.only.others page apart))
       (cases_eq page at))
 
-  homes_along : ((block : ℕ) → home new block ≡ home inner block) → HasHomes new logical
-  homes_along same = let homes : HasHomes inner logical = call.place.homes in record {
-    room = rw call.shape homes.room;
-    few_blocks = rw call.shape homes.few_blocks;
-    few_pages = rw call.shape homes.few_pages;
-    gate = rw call.shape homes.gate;
-    inside = λ block below. rw (same block, call.shape) (homes.inside block below);
-    past_table = λ block below. rw (same block) (homes.past_table block below);
-    apart = λ block other below below' e. homes.apart block other below below' (sym (same block) ∙ (e ∙ same other));
-  }
-
   -- with all of it one block moves
   moved : {block : ℕ} → IsEntry (page_of new at) block named → Moved inner new block named
   moved {block} entry =
@@ -203,7 +193,7 @@ module _ {inner new : DieState} {logical named at : ℕ} (call : EntryCall inner
   failed_here {block} (inr entry) = inr (moved_blank block (moved entry).here)
 
   failed_homes : {block : ℕ} → Either block → HasHomes new logical
-  failed_homes (inl ungated) = homes_along (homes_before ungated)
+  failed_homes (inl ungated) = homes_along call.place.homes call.shape (homes_before ungated)
   failed_homes (inr entry) = homes_moved (moved entry)
 
   pub orderly_failed : {bad_erases bad_erases' block : ℕ} {book : Book} {tally : Tally} → IsOrderly inner bad_erases logical book tally → Either block

@@ -37,11 +37,4 @@ returns-clause-orderly g c =
     (told_whole c.read_table.ensures.only_reads c.in_ok-read_table.ensures.told) c.in_ok-read_reserve.ensures.spares fits' c.first_tally-tally.ensures.fresh (search rules)) refl
 
 pub returns-clause-starts : goal.returns-clause-starts
-returns-clause-starts g c =
-    let fits : FitsShape (g.D.WornDie.state c.args.die.now).shape c.args.logical
-    = subst (λ (shape : Shape). FitsShape shape c.args.logical) c.shape-shape.ensures (c.fits_shape.ensures.fits c.if-not-fits_shape.false) in
-    let fits' : FitsShape (g.D.WornDie.state c.read_table.new.die).shape c.args.logical = subst (λ (shape : Shape). FitsShape shape c.args.logical) (sym c.read_table.ensures.only_reads.shape) fits in
-    starts (orderly_opened (g.met.D.WornDie.shaped c.read_table.new.die) c.read_reserve.ensures.only_reads
-    (orderly_told (g.D.WornDie.bad_erases c.read_reserve.new.die)
-    (told_whole c.read_table.ensures.only_reads c.in_ok-read_table.ensures.told) c.in_ok-read_reserve.ensures.spares fits' c.first_tally-tally.ensures.fresh
-    (search rules)) refl) c.first_tally-tally.ensures.fresh (search rules)
+returns-clause-starts g c = starts (returns-clause-orderly g c) c.first_tally-tally.ensures.fresh (search rules)
