@@ -20,24 +20,30 @@ pub record LeavesTable (inner new : DieState) (logical : ℕ) : Type 0 where
   pub shape : new.shape ≡ inner.shape
   pub table : (page : ℕ) → page < inner.shape.pages → page_of new page ≡ page_of inner page
 
--- places stay
+-- a place stays where the home of its block does
+pub same_place : (inner new : DieState) (page : ℕ) → new.shape ≡ inner.shape → home new (page / inner.shape.pages) ≡ home inner (page / inner.shape.pages)
+    → spare_place new page ≡ spare_place inner page
+same_place inner new page shape same =
+    ap (λ (shape : Shape). home new (page / shape.pages) * shape.pages + page % shape.pages) shape
+    ∙ ap (λ at. at * inner.shape.pages + page % inner.shape.pages) same
+
 pub place-same : {inner new : DieState} {logical : ℕ} (page : ℕ) → LeavesTable inner new logical → spare_place new page ≡ spare_place inner page
-place-same {inner} {new} {logical} page leaves =
-    ap (λ (shape : Shape). home new (page / shape.pages) * shape.pages + page % shape.pages) leaves.shape
-    ∙ ap (λ block. block * inner.shape.pages + page % inner.shape.pages) (home-same inner new (page / inner.shape.pages) leaves.shape leaves.table)
+place-same {inner} {new} {logical} page leaves = same_place inner new page leaves.shape (home-same inner new (page / inner.shape.pages) leaves.shape leaves.table)
 
 -- homes stay homes
-pub homes_stay : {inner new : DieState} {logical : ℕ} → LeavesTable inner new logical → HasHomes new logical
-homes_stay {inner} {new} {logical} leaves = record {
-  room = rw leaves.shape leaves.homes.room;
-  few_blocks = rw leaves.shape leaves.homes.few_blocks;
-  few_pages = rw leaves.shape leaves.homes.few_pages;
-  gate = rw leaves.shape leaves.homes.gate;
-  inside = λ block below. rw (home-same inner new block leaves.shape leaves.table, leaves.shape) (leaves.homes.inside block below);
-  past_table = λ block below. rw (home-same inner new block leaves.shape leaves.table) (leaves.homes.past_table block below);
-  apart = λ block other below below' same. leaves.homes.apart block other below below'
-      (sym (home-same inner new block leaves.shape leaves.table) ∙ (same ∙ home-same inner new other leaves.shape leaves.table));
+pub homes_along : {inner new : DieState} {logical : ℕ} → HasHomes inner logical → new.shape ≡ inner.shape → ((block : ℕ) → home new block ≡ home inner block) → HasHomes new logical
+homes_along {inner} {new} {logical} homes shape same = record {
+  room = rw shape homes.room;
+  few_blocks = rw shape homes.few_blocks;
+  few_pages = rw shape homes.few_pages;
+  gate = rw shape homes.gate;
+  inside = λ block below. rw (same block, shape) (homes.inside block below);
+  past_table = λ block below. rw (same block) (homes.past_table block below);
+  apart = λ block other below below' e. homes.apart block other below below' (sym (same block) ∙ (e ∙ same other));
 }
+
+pub homes_stay : {inner new : DieState} {logical : ℕ} → LeavesTable inner new logical → HasHomes new logical
+homes_stay {inner} {new} {logical} leaves = homes_along leaves.homes leaves.shape (λ block. home-same inner new block leaves.shape leaves.table)
 
 -- a program or charge of a logical page leaves the table as it was
 pub leaves_table : {inner new : DieState} {logical : ℕ} (page : ℕ) → IsShaped inner → HasHomes inner logical → new.shape ≡ inner.shape
@@ -94,7 +100,8 @@ kept_spare {inner} {new} {logical} own own' kept later falls = record {
 }
 
 -- a page that becomes one above the old one
-pub kept_page : {inner new : DieState} {logical : ℕ} (own own' : Own) (page : ℕ) → LeavesTable inner new logical → OwnLater own own' → own'.erases ≡ own.erases → Kept inner new → page < logical * inner.shape.pages
+pub kept_page : {inner new : DieState} {logical : ℕ} (own own' : Own) (page : ℕ) → LeavesTable inner new logical → OwnLater own own' → own'.erases ≡ own.erases → Kept inner new
+    → page < logical * inner.shape.pages
     → OnlyPage (spare_place inner page) inner new → IsAbove (page_of new (spare_place inner page)) (page_of inner (spare_place inner page))
     → Kept (spare_state inner logical own) (spare_state new logical own')
 kept_page {inner} {new} {logical} own own' page leaves later erases kept below only above =

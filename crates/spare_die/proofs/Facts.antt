@@ -1,18 +1,19 @@
 -- What each step of a call leaves of what the die knows.
-use Rattle.std.proofs.Common.{◌≡◌, ◌≢◌, inl, ℕ, ◌+◌, ◌-◌, ◌/◌, ◌<◌, ◌≤◌, true, false, not, length, refl, ap, ap₂, sym, ◌∙◌, arith, ◌||◌, nat_le, ⊎_elim}
+use Rattle.std.proofs.Common.{◌≡◌, ◌≢◌, inl, ℕ, ◌+◌, ◌-◌, ◌/◌, ◌<◌, ◌≤◌, true, false, not, length, ap, ap₂, sym, ◌∙◌, arith, ◌||◌, nat_le, ⊎_elim}
 use Rattle.std.specs.List.{range_with_len, count_by}
 use Rattle.std.proofs.lemmas.Bool.{cases_Bool, false≢true}
 use Rattle.std.proofs.lemmas.List.Sums.{count_by-le-length}
 use Rattle.std.proofs.lemmas.List.FromFn.{length-range_with_len}
 use Rattle.cell_die.specs.declared.shape.Shape.{Shape}
 use Rattle.cell_die.specs.Cells.{is_blank, blank_page}
-use Rattle.cell_die.specs.Counts.{Rose, raised}
+use Rattle.cell_die.specs.Counts.{Rose}
 use Rattle.cell_die.specs.DieState.{DieState, IsShaped, page_of, page_bytes}
 use Rattle.spare_die.specs.declared.book.Book.{Book}
 use Rattle.spare_die.specs.declared.tally.Tally.{Tally}
 use Rattle.spare_die.specs.Table.{home, HasHomes, is_named, is_named_up_to, is_used, is_gated, reserve_count}
 use Rattle.spare_die.specs.SpareLaws.{home-same}
-use Rattle.spare_die.specs.Book.{IsOrderly, KeepsFacts, HasRows, IsOrderlyTable, IsBookOf, IsCounted, IsUsedUp}
+use Rattle.spare_die.specs.Tallies.{SameButErases}
+use Rattle.spare_die.specs.Book.{IsOrderly, KeepsFacts, HasRows, IsOrderlyTable, IsBookOf, IsCounted}
 use Rattle.spare_die.proofs.Homes.{names_ungated, home_named}
 use Rattle.spare_die.proofs.Calls.{homes_stay}
 use Rattle.spare_die.proofs.Counting.{count_same, count_same_range}
@@ -33,46 +34,6 @@ keeps_facts {inner} {bad_erases} {logical} {book} {tally} o = record {
       (cases_Bool tally.stopped);
 }
 
--- a refused read
-pub orderly_refused_read : {inner : DieState} {bad_erases logical : ℕ} {book : Book} {tally : Tally} → IsOrderly inner bad_erases logical book tally → tally.stopped ≡ true
-    → IsOrderly inner bad_erases logical book (record tally { read_faults = raised tally.read_faults })
-orderly_refused_read {inner} {bad_erases} {logical} {book} {tally} o stopped = record {
-  homes = o.homes;
-  rows = o.rows;
-  erases = o.erases;
-  bad = o.bad;
-  written = o.written;
-  room = o.room;
-  table = o.table;
-  true_book = o.true_book;
-  counted = λ sound. record { named = (o.counted sound).named; used = (o.counted sound).used };
-  no_reads = λ running. absurd (false≢true (sym running ∙ stopped));
-  no_changes = o.no_changes;
-  used_up = o.used_up;
-  bad_more = o.bad_more;
-  own_counted = o.own_counted;
-}
-
--- a refused change call
-pub orderly_refused_change : {inner : DieState} {bad_erases logical : ℕ} {book : Book} {tally : Tally} → IsOrderly inner bad_erases logical book tally → tally.stopped ≡ true
-    → IsOrderly inner bad_erases logical book (record tally { change_faults = raised tally.change_faults; stopped = true })
-orderly_refused_change {inner} {bad_erases} {logical} {book} {tally} o stopped = record {
-  homes = o.homes;
-  rows = o.rows;
-  erases = o.erases;
-  bad = o.bad;
-  written = o.written;
-  room = o.room;
-  table = λ sound. o.table (λ e. sound refl);
-  true_book = λ sound. o.true_book (λ e. sound refl);
-  counted = λ sound. let counted : IsCounted inner logical tally = o.counted (λ e. sound refl) in record { named = counted.named; used = counted.used };
-  no_reads = λ running. absurd (cc);
-  no_changes = λ running. absurd (cc);
-  used_up = λ e. o.used_up stopped;
-  bad_more = λ e. o.bad_more stopped;
-  own_counted = λ e sound. omega arith;
-}
-
 -- an inner call that leaves the table and the free reserve blocks as they are, and fails no change
 pub record LeavesFree (inner new : DieState) (logical : ℕ) : Type 0 where
   pub shaped : IsShaped inner
@@ -80,18 +41,13 @@ pub record LeavesFree (inner new : DieState) (logical : ℕ) : Type 0 where
   pub table : (page : ℕ) → page < inner.shape.pages → page_of new page ≡ page_of inner page
   pub spares : (block page : ℕ) → logical < block → block < inner.shape.blocks → is_named inner block ≡ false → page / inner.shape.pages ≡ block → page_of new page ≡ page_of inner page
 
--- the counts of the table stay
-pub record SameTable (old new : Tally) : Type 0 where
-  pub erases : length new.erases.items ≡ length old.erases.items
-  pub read_faults : new.read_faults ≡ old.read_faults
-  pub change_faults : new.change_faults ≡ old.change_faults
-  pub written : new.written ≡ old.written
-  pub named_at_opening : new.named_at_opening ≡ old.named_at_opening
-  pub pages_at_opening : new.pages_at_opening ≡ old.pages_at_opening
-  pub stopped : new.stopped ≡ old.stopped
+-- nothing is counted but erases, and those that went bad
+abbrev pub SameCounted : Tally → Tally → Type 0
+SameCounted old new = SameButErases old (record new { bad = old.bad })
 
 -- names stay
-pub named_same : (inner new : DieState) (block : ℕ) → new.shape ≡ inner.shape → ((page : ℕ) → page < inner.shape.pages → page_of new page ≡ page_of inner page) → is_named new block ≡ is_named inner block
+pub named_same : (inner new : DieState) (block : ℕ) → new.shape ≡ inner.shape → ((page : ℕ) → page < inner.shape.pages → page_of new page ≡ page_of inner page)
+    → is_named new block ≡ is_named inner block
 named_same inner new block shape table =
     ap (λ (shape : Shape). is_named_up_to new block shape.pages) shape ∙ names_ungated inner new block inner.shape.pages (λ page below. inl (table page below))
 
@@ -100,7 +56,7 @@ used_same inner new page same = ap (λ page. not (is_blank page)) same
 
 -- and the counts of the table
 pub counted_same : {inner new : DieState} {logical : ℕ} {tally tally' : Tally} → new.shape ≡ inner.shape → ((page : ℕ) → page < inner.shape.pages → page_of new page ≡ page_of inner page)
-    → SameTable tally tally' → IsCounted inner logical tally → IsCounted new logical tally'
+    → SameCounted tally tally' → IsCounted inner logical tally → IsCounted new logical tally'
 counted_same {inner} {new} {logical} {tally} {tally'} shape table same counted = record {
   named =
       ap (λ (shape : Shape). count_by (is_named new) (range_with_len (1 + logical) (shape.blocks - (1 + logical)))) shape
@@ -117,12 +73,12 @@ rows_same {inner} {new} {logical} {book} shape rows = record { homes = rows.home
 
 -- such a call leaves what the die knows
 pub orderly_leaves : {inner new : DieState} {bad_erases bad_erases' logical : ℕ} {book : Book} {tally tally' : Tally} → IsOrderly inner bad_erases logical book tally → LeavesFree inner new logical
-    → new.change_faults ≡ inner.change_faults → SameTable tally tally' → tally'.written ≤ tally'.bad → (tally.written < tally.bad → tally'.written < tally'.bad) → tally'.bad ≤ bad_erases'
+    → new.change_faults ≡ inner.change_faults → SameCounted tally tally' → tally'.written ≤ tally'.bad → (tally.written < tally.bad → tally'.written < tally'.bad) → tally'.bad ≤ bad_erases'
     → IsOrderly new bad_erases' logical book tally'
 orderly_leaves {inner} {new} {bad_erases} {bad_erases'} {logical} {book} {tally} {tally'} o leaves faults same written more counted = record {
   homes = homes_stay (record { shaped = leaves.shaped; homes = o.homes; shape = leaves.shape; table = leaves.table });
   rows = rows_same leaves.shape o.rows;
-  erases = same.erases ∙ o.erases;
+  erases = same.blocks ∙ o.erases;
   bad = counted;
   written = written;
   room = rw leaves.shape (omega (arith, o.room, same.written, same.named_at_opening));
@@ -175,29 +131,6 @@ orderly_stopped {inner} {new} {bad_erases} {bad_erases'} {logical} {book} {tally
   own_counted = λ e sound. absurd (omega arith);
 }
 
--- an erase that answered Bad with nothing left stops the die
-pub orderly_given_up : {inner : DieState} {bad_erases logical : ℕ} {book : Book} {tally : Tally} → IsOrderly inner bad_erases logical book tally → tally.stopped ≡ false
-    → IsUsedUp inner logical → tally.written < tally.bad
-    → IsOrderly inner bad_erases logical book (record tally { change_faults = raised tally.change_faults; stopped = true })
-orderly_given_up {inner} {bad_erases} {logical} {book} {tally} o running used_up more = record {
-  homes = o.homes;
-  rows = o.rows;
-  erases = o.erases;
-  bad = o.bad;
-  written = o.written;
-  room = o.room;
-  table = λ sound. o.table before;
-  true_book = λ sound. o.true_book before;
-  counted = λ sound. let counted : IsCounted inner logical tally = o.counted before in record { named = counted.named; used = counted.used };
-  no_reads = λ e. absurd (cc);
-  no_changes = λ e. absurd (cc);
-  used_up = λ e sound. used_up;
-  bad_more = λ e sound. more;
-  own_counted = λ e sound. omega arith;
-} where
-  before : tally.stopped ≡ true → inner.change_faults ≡ 0
-  before stopped = absurd (false≢true (sym running ∙ stopped))
-
 -- a page of a logical block stands in no free reserve block
 pub place_not_free : (inner : DieState) (logical block other : ℕ) → other < logical → logical < block → is_named inner block ≡ false → home inner other ≢ block
 place_not_free inner logical block other below past free same = ⊎_elim
@@ -208,4 +141,10 @@ place_not_free inner logical block other below past free same = ⊎_elim
 -- not more names than reserve blocks
 pub room_counted : {inner : DieState} {logical : ℕ} {tally : Tally} → IsCounted inner logical tally → tally.named_at_opening + tally.written ≤ reserve_count inner logical
 room_counted {inner} {logical} {tally} counted =
-    omega (arith, counted.named, count_by-le-length (is_named inner) (range_with_len (1 + logical) (inner.shape.blocks - (1 + logical))), length-range_with_len (1 + logical) (inner.shape.blocks - (1 + logical)))
+    omega (
+      arith,
+      counted.named,
+      count_by-le-length (is_named inner) (range_with_len (1 + logical) (inner.shape.blocks - (1 + logical))),
+      length-range_with_len (1 + logical)
+          (inner.shape.blocks - (1 + logical)),
+    )

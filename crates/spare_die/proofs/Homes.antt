@@ -64,7 +64,8 @@ named_after inner new block table named (suc count) below others none gated is =
         ap₂ (λ (page : List ℕ) (rest : Bool). if is_entry_of block page then true else rest) (ap (page_of new) (sym here)) same
         ∙ (ap₂ (λ (a : Bool) (n : ℕ). if a && (n == block) then true else is_named_up_to inner block count) gated is
         ∙ (either (named == block) (is_named_up_to inner block count)
-        ∙ sym (ap (λ (a : Bool). (named == block) || (if a && (inner_of (page_of inner count) == block) then true else is_named_up_to inner block count)) (ap (λ page. is_gated (page_of inner page)) (sym here) ∙ none))))
+        ∙ sym (ap (λ (a : Bool). (named == block) || (if a && (inner_of (page_of inner count) == block) then true else is_named_up_to inner block count))
+        (ap (λ page. is_gated (page_of inner page)) (sym here) ∙ none))))
 
     before_last : table ≢ count → is_named_up_to new block count ≡ ((named == block) || is_named_up_to inner block count)
         → (if is_entry_of block (page_of new count) then true else is_named_up_to new block count)
@@ -79,7 +80,8 @@ unfolding is_named_up_to
 named_by inner block zero page below entry = absurd (omega arith)
 named_by inner block (suc count) page below entry = ⊎_elim
     (λ here. ap (λ is. if is then true else is_named_up_to inner block count) (ap (λ at. is_entry_of block (page_of inner at)) (sym here) ∙ entry))
-    (λ apart. ap (λ (rest : Bool). if is_entry_of block (page_of inner count) then true else rest) (named_by inner block count page (omega arith) entry) ∙ both (is_entry_of block (page_of inner count)))
+    (λ apart. ap (λ (rest : Bool). if is_entry_of block (page_of inner count) then true else rest) (named_by inner block count page (omega arith) entry) ∙ both
+    (is_entry_of block (page_of inner count)))
     (cases_eq page count)
   where
     both : (b : Bool) → (if b then true else true) ≡ true
@@ -103,7 +105,8 @@ home_named inner block (suc count) = go (is_gated (page_of inner count)) (logica
       (h ≡ 1 + block) ⊎ ((if is_gated (page_of inner count) && (inner_of (page_of inner count) == h) then true else is_named_up_to inner h count) ≡ true)
 
   rest : (home_up_to inner block count ≡ 1 + block) ⊎ (is_named_up_to inner (home_up_to inner block count) count ≡ true)
-      → (home_up_to inner block count ≡ 1 + block) ⊎ ((if is_gated (page_of inner count) && (inner_of (page_of inner count) == home_up_to inner block count) then true else is_named_up_to inner (home_up_to inner block count) count) ≡ true)
+      → (home_up_to inner block count ≡ 1 + block) ⊎
+      ((if is_gated (page_of inner count) && (inner_of (page_of inner count) == home_up_to inner block count) then true else is_named_up_to inner (home_up_to inner block count) count) ≡ true)
   rest (inl own) = inl own
   rest (inr named) = inr (keeps (is_gated (page_of inner count) && (inner_of (page_of inner count) == home_up_to inner block count)) _ named)
 

@@ -48,11 +48,13 @@ pub sound_told : {inner : DieState} {logical : ℕ} {opening : Opening} → Told
 sound_told {inner} {logical} {opening} told spares = record { entries = told.sound; spares = spares }
 
 -- the counts at the opening are those of the table
-counted_told : {inner : DieState} {logical : ℕ} {opening : Opening} {tally : Tally} → Told inner logical inner.shape.pages opening → FitsShape inner.shape logical → IsFreshTally opening.book logical tally → IsCounted inner logical tally
+counted_told : {inner : DieState} {logical : ℕ} {opening : Opening} {tally : Tally} → Told inner logical inner.shape.pages opening → FitsShape inner.shape logical
+    → IsFreshTally opening.book logical tally → IsCounted inner logical tally
 counted_told {inner} {logical} {opening} {tally} told fits fresh = record {
   named =
       let rest : length (drop (logical + 1) opening.book.taken.items) ≡ inner.shape.blocks - (1 + logical) = omega (arith, length-drop (logical + 1) opening.book.taken.items, told.rows.taken) in
-      let flags : count_by (λ (b : Bool). b) (drop (logical + 1) opening.book.taken.items) ≡ count_by (is_named inner) (range_with_len (1 + logical) (length (drop (logical + 1) opening.book.taken.items)))
+      let flags : count_by (λ (b : Bool). b) (drop (logical + 1) opening.book.taken.items) ≡ count_by (is_named inner)
+      (range_with_len (1 + logical) (length (drop (logical + 1) opening.book.taken.items)))
       = count_flags (is_named inner) (drop (logical + 1) opening.book.taken.items) (1 + logical) (λ k below. flag k (omega (arith, rest))) in
       let all : count_by (is_named inner) (range_with_len (1 + logical) (length (drop (logical + 1) opening.book.taken.items))) ≡ named_count inner logical
       = ap (λ n. count_by (is_named inner) (range_with_len (1 + logical) n)) rest in
@@ -71,7 +73,8 @@ counted_told {inner} {logical} {opening} {tally} told fits fresh = record {
       ∙ (told.taken (1 + logical + k) (omega arith)
       ∙ ap (λ (b : Bool). b || is_named inner (1 + logical + k)) (lt-leb (1 + logical + k) logical (omega arith))))
 
-pub orderly_told : {inner : DieState} {logical : ℕ} {opening : Opening} {tally : Tally} (bad_erases : ℕ) → Told inner logical inner.shape.pages opening → SparesUpTo inner logical inner.shape.blocks → FitsShape inner.shape logical
+pub orderly_told : {inner : DieState} {logical : ℕ} {opening : Opening} {tally : Tally} (bad_erases : ℕ) → Told inner logical inner.shape.pages opening → SparesUpTo inner logical inner.shape.blocks
+    → FitsShape inner.shape logical
     → IsFreshTally opening.book logical tally → tally.erases.items ≡ replicate logical 0 → IsOrderly inner bad_erases logical opening.book tally
 orderly_told {inner} {logical} {opening} {tally} bad_erases told spares fits fresh erases = record {
   homes = homes_of_sound fits told.sound;
@@ -91,7 +94,8 @@ orderly_told {inner} {logical} {opening} {tally} bad_erases told spares fits fre
 }
 
 -- and after the reads
-pub orderly_opened : {inner new : DieState} {bad_erases bad_erases' logical : ℕ} {book : Book} {tally : Tally} → IsShaped inner → OnlyReads inner new → IsOrderly inner bad_erases logical book tally → bad_erases' ≡ bad_erases
+pub orderly_opened : {inner new : DieState} {bad_erases bad_erases' logical : ℕ} {book : Book} {tally : Tally} → IsShaped inner → OnlyReads inner new → IsOrderly inner bad_erases logical book tally
+    → bad_erases' ≡ bad_erases
     → IsOrderly new bad_erases' logical book tally
 orderly_opened {inner} {new} {bad_erases} {bad_erases'} {logical} {book} {tally} shaped reads o bad =
     let leaves : LeavesFree inner new logical = record {
@@ -100,7 +104,7 @@ orderly_opened {inner} {new} {bad_erases} {bad_erases'} {logical} {book} {tally}
       table = λ page below. page_same page (inside_read reads);
       spares = λ block page past inside free here. page_same page (inside_read reads);
     } in
-    orderly_passed o leaves reads.change_faults bad
+    orderly_passed tally.stopped refl o leaves reads.change_faults bad
 
 -- the whole table is told after reads too
 pub told_whole : {inner new : DieState} {logical : ℕ} {opening : Opening} → OnlyReads inner new → Told inner logical inner.shape.pages opening → Told new logical new.shape.pages opening
@@ -108,7 +112,8 @@ told_whole {inner} {new} {logical} {opening} reads told =
     subst (λ (n : ℕ). Told new logical n opening) (ap (λ (shape : Shape). shape.pages) (sym reads.shape)) (told_read (inside_read reads) told)
 
 -- the counts begin at the numbers of the table
-pub starts : {inner : DieState} {bad_erases logical : ℕ} {book counts : Book} {tally : Tally} → IsOrderly inner bad_erases logical book tally → IsFreshTally counts logical tally → tally.erases.items ≡ replicate logical 0 → StartsAt inner logical tally
+pub starts : {inner : DieState} {bad_erases logical : ℕ} {book counts : Book} {tally : Tally} → IsOrderly inner bad_erases logical book tally → IsFreshTally counts logical tally
+    → tally.erases.items ≡ replicate logical 0 → StartsAt inner logical tally
 starts {inner} {bad_erases} {logical} {book} {counts} {tally} o fresh erases =
     let counted : IsCounted inner logical tally = o.counted (λ stopped. absurd (false≢true (sym fresh.stopped ∙ stopped))) in record {
       erases = erases;

@@ -1,5 +1,6 @@
 -- What a table page adds to what the table tells, and what the whole table tells.
-use Rattle.std.proofs.Common.{◌≡◌, ◌⊎◌, inl, inr, ℕ, zero, suc, ◌+◌, ◌/◌, ◌<◌, ◌≤◌, min, Bool, true, false, not, List, length, refl, ap, ap₂, sym, subst, ◌∙◌, arith, add-one, ⊎_elim, ◌==◌, ◌&&◌, ◌||◌, eq-eqb, set, get_or, get_or-set_same, get_or-set_other, if◌then◌else◌, Result, Ok, Err, OnOk, OnErr, IfErr}
+use Rattle.std.proofs.Common.{◌≡◌, ◌⊎◌, inl, inr, ℕ, zero, suc, ◌+◌, ◌/◌, ◌<◌, ◌≤◌, min, Bool, true, false, not, List, length, refl, ap, ap₂}
+use Rattle.std.proofs.Common.{sym, subst, ◌∙◌, arith, add-one, ⊎_elim, ◌==◌, ◌&&◌, ◌||◌, eq-eqb, set, get_or, get_or-set_same, get_or-set_other, if◌then◌else◌, Result, Ok, Err, OnOk, OnErr, IfErr}
 use Rattle.std.specs.Prelude.{nat_le, slice_index_or}
 use Rattle.std.proofs.lemmas.Bool.{cases_Bool, cases_eq, cases_lt, false≢true, or_parts, and_parts, eqb-true, leb-false, ne_eqb, lt-leb}
 use Rattle.std.proofs.lemmas.List.{length-set, get_or_past}
@@ -31,7 +32,8 @@ named_witness inner block (suc count) named = go (is_entry_of block (page_of inn
       (before.0, omega (arith, before.1), before.2)
 
 -- a home is the inner block after its own number, or has an entry
-pub home_witness : (inner : DieState) (block count : ℕ) → (home_up_to inner block count ≡ 1 + block) ⊎ ((page : ℕ) × (page < count) × (is_entry_for block (page_of inner page) ≡ true) × (home_up_to inner block count ≡ inner_of (page_of inner page)))
+pub home_witness : (inner : DieState) (block count : ℕ)
+    → (home_up_to inner block count ≡ 1 + block) ⊎ ((page : ℕ) × (page < count) × (is_entry_for block (page_of inner page) ≡ true) × (home_up_to inner block count ≡ inner_of (page_of inner page)))
 unfolding home_up_to
 home_witness inner block zero = inl refl
 home_witness inner block (suc count) = go (is_entry_for block (page_of inner count)) refl (home_witness inner block count) where
@@ -43,15 +45,6 @@ home_witness inner block (suc count) = go (is_entry_for block (page_of inner cou
   go true is before = inr (count, omega arith, is, ap (λ (e : Bool). if e then inner_of (page_of inner count) else home_up_to inner block count) is)
   go false is (inl own) = inl (ap (λ (e : Bool). if e then inner_of (page_of inner count) else home_up_to inner block count) is ∙ own)
   go false is (inr found) = inr (found.0, omega (arith, found.1), found.2, ap (λ (e : Bool). if e then inner_of (page_of inner count) else home_up_to inner block count) is ∙ found.3)
-
--- names are past the logical blocks
-pub named_past : {inner : DieState} {logical count : ℕ} (block : ℕ) → SoundUpTo inner logical count → is_named_up_to inner block count ≡ true → logical < block
-named_past {inner} {logical} {count} block sound named =
-    let found : (page : ℕ) × (page < count) × (is_entry_of block (page_of inner page) ≡ true) = named_witness inner block count named in
-    let parts : (is_gated (page_of inner found.0) ≡ true) × ((inner_of (page_of inner found.0) == block) ≡ true) = and_parts _ _ found.2 in
-    let past : logical < inner_of (page_of inner found.0) = sound.inner_past found.0 found.1 parts.0 in
-    let is : inner_of (page_of inner found.0) ≡ block = eqb-true (inner_of (page_of inner found.0)) block parts.1 in
-    omega arith
 
 -- a sound table has homes
 pub homes_of_sound : {inner : DieState} {logical : ℕ} → FitsShape inner.shape logical → SoundUpTo inner logical inner.shape.pages → HasHomes inner logical
@@ -154,7 +147,8 @@ sound_entry {inner} {logical} {page} {opening} a = record {
 }
 
 -- an entry that is not admitted cannot stand in a sound table
-pub wrong_entry : {inner : DieState} {logical page : ℕ} {opening : Opening} → Told inner logical page opening → page < inner.shape.pages → IsWrongEntry logical page (page_of inner page) opening → IsSoundTable inner logical → ⊥
+pub wrong_entry : {inner : DieState} {logical page : ℕ} {opening : Opening} → Told inner logical page opening → page < inner.shape.pages → IsWrongEntry logical page (page_of inner page) opening
+    → IsSoundTable inner logical → ⊥
 wrong_entry {inner} {logical} {page} {opening} told inside wrong sound = wrong.wrong (record {
   logical_inside = sound.entries.logical_inside page inside wrong.gated;
   free = told.taken named (sound.entries.inner_inside page inside wrong.gated) ∙ ap₂ (λ (a b : Bool). a || b) (lt-leb named logical (sound.entries.inner_past page inside wrong.gated)) unnamed;
@@ -199,7 +193,8 @@ lowest_blank page at row old is = ⊎_elim
     (λ used. inr (used, is ∙ ap (λ (b : Bool). if b then min old page else old) used))
     (cases_Bool (is_blank row))
 
-blank_more : {inner : DieState} {logical page : ℕ} {old new : Opening} → Told inner logical page old → page < inner.shape.pages → NotesPage logical page (page_of inner page) old new → new.blank < page + 1 → is_blank (page_of inner new.blank) ≡ true
+blank_more : {inner : DieState} {logical page : ℕ} {old new : Opening} → Told inner logical page old → page < inner.shape.pages → NotesPage logical page (page_of inner page) old new
+    → new.blank < page + 1 → is_blank (page_of inner new.blank) ≡ true
 blank_more {inner} {logical} {page} {old} {new} told inside notes = λ below. ⊎_elim
     (λ blank. ⊎_elim
     (λ before. let same : new.blank ≡ old.blank = omega (arith, blank.1) in ap (λ p. is_blank (page_of inner p)) same ∙ told.blank before)
@@ -211,13 +206,15 @@ blank_more {inner} {logical} {page} {old} {new} told inside notes = λ below. �
     (cases_lt old.blank page))
     (lowest_blank page new.blank (page_of inner page) old.blank notes.blank)
 
-reach_more : {inner : DieState} {logical page : ℕ} {old new : Opening} → Told inner logical page old → NotesPage logical page (page_of inner page) old new → page + 1 ≤ new.blank → inner.shape.pages ≤ new.blank
+reach_more : {inner : DieState} {logical page : ℕ} {old new : Opening} → Told inner logical page old → NotesPage logical page (page_of inner page) old new → page + 1 ≤ new.blank
+    → inner.shape.pages ≤ new.blank
 reach_more {inner} {logical} {page} {old} {new} told notes = λ past. ⊎_elim
     (λ blank. absurd (omega (arith, blank.1)))
     (λ used. let before : page ≤ old.blank = omega (arith, used.1) in omega (arith, used.1, told.reach before))
     (lowest_blank page new.blank (page_of inner page) old.blank notes.blank)
 
-below_page : {inner : DieState} {logical page : ℕ} {old new : Opening} → Told inner logical page old → NotesPage logical page (page_of inner page) old new → (p : ℕ) → p < page + 1 → p < new.blank → is_blank (page_of inner p) ≡ false
+below_page : {inner : DieState} {logical page : ℕ} {old new : Opening} → Told inner logical page old → NotesPage logical page (page_of inner page) old new → (p : ℕ) → p < page + 1 → p < new.blank
+    → is_blank (page_of inner p) ≡ false
 below_page {inner} {logical} {page} {old} {new} told notes = λ p below first. ⊎_elim
     (λ blank. told.used_below p (omega (arith, blank.1)) (omega (arith, blank.1)))
     (λ used. ⊎_elim
@@ -227,7 +224,8 @@ below_page {inner} {logical} {page} {old} {new} told notes = λ p below first. �
     (lowest_blank page new.blank (page_of inner page) old.blank notes.blank)
 
 -- what a table page adds
-pub told_plain : {inner : DieState} {logical page : ℕ} {old new : Opening} → Told inner logical page old → page < inner.shape.pages → NotesPage logical page (page_of inner page) old new → is_gated (page_of inner page) ≡ false
+pub told_plain : {inner : DieState} {logical page : ℕ} {old new : Opening} → Told inner logical page old → page < inner.shape.pages → NotesPage logical page (page_of inner page) old new
+    → is_gated (page_of inner page) ≡ false
     → Told inner logical (page + 1) new
 told_plain {inner} {logical} {page} {old} {new} told inside notes plain = record {
   rows = record {
@@ -236,7 +234,8 @@ told_plain {inner} {logical} {page} {old} {new} told inside notes plain = record
     used = ap length notes.used ∙ (length-set old.book.used.items page (not (is_blank (page_of inner page))) ∙ told.rows.used);
   };
   sound = sound_plain told.sound plain;
-  homes = λ block below. ap (λ (xs : List ℕ). get_or xs block 0) (notes.same_homes plain) ∙ (told.homes block below ∙ sym (ap (home_up_to inner block) (add-one page) ∙ home_of_other inner block page (not_entry (logical_of (page_of inner page) == block))));
+  homes = λ block below. ap (λ (xs : List ℕ). get_or xs block 0) (notes.same_homes plain) ∙
+      (told.homes block below ∙ sym (ap (home_up_to inner block) (add-one page) ∙ home_of_other inner block page (not_entry (logical_of (page_of inner page) == block))));
   taken = λ block below. ap (λ (xs : List Bool). get_or xs block true) (notes.same_taken plain) ∙ (told.taken block below
       ∙ ap (λ (b : Bool). nat_le block logical || b) (sym (ap (is_named_up_to inner block) (add-one page) ∙ name_of_other inner block page (not_entry (inner_of (page_of inner page) == block)))));
   used = used_more told inside notes;
@@ -247,7 +246,8 @@ told_plain {inner} {logical} {page} {old} {new} told inside notes plain = record
   not_entry : (b : Bool) → (is_gated (page_of inner page) && b) ≡ false
   not_entry b = ap (λ (gated : Bool). gated && b) plain
 
-pub told_entry : {inner : DieState} {logical page : ℕ} {old new : Opening} → Told inner logical page old → page < inner.shape.pages → NotesPage logical page (page_of inner page) old new → is_gated (page_of inner page) ≡ true
+pub told_entry : {inner : DieState} {logical page : ℕ} {old new : Opening} → Told inner logical page old → page < inner.shape.pages → NotesPage logical page (page_of inner page) old new
+    → is_gated (page_of inner page) ≡ true
     → Told inner logical (page + 1) new
 told_entry {inner} {logical} {page} {old} {new} told inside notes gated = record {
   rows = record {
@@ -267,9 +267,11 @@ told_entry {inner} {logical} {page} {old} {new} told inside notes gated = record
   taken = λ block below. ap (λ (xs : List Bool). get_or xs block true) (notes.taken gated) ∙ (⊎_elim
       (λ here. ap (λ n. get_or (set old.book.taken.items (inner_of (page_of inner page)) true) n true) here
       ∙ (get_or-set_same old.book.taken.items (inner_of (page_of inner page)) true true (omega (arith, named_inside admits, told.rows.taken))
-      ∙ sym (ap (λ (b : Bool). nat_le block logical || b) (name_of_entry inner block page (ap₂ (λ (a b : Bool). a && b) gated (eq-eqb (inner_of (page_of inner page)) block (sym here)))) ∙ or_true (nat_le block logical))))
+      ∙ sym (ap (λ (b : Bool). nat_le block logical || b) (name_of_entry inner block page (ap₂ (λ (a b : Bool). a && b) gated (eq-eqb (inner_of (page_of inner page)) block (sym here)))) ∙ or_true
+      (nat_le block logical))))
       (λ apart. get_or-set_other old.book.taken.items (inner_of (page_of inner page)) block true true apart
-      ∙ (told.taken block below ∙ ap (λ (b : Bool). nat_le block logical || b) (sym (name_of_other inner block page (ap₂ (λ (a b : Bool). a && b) gated (ne_eqb (inner_of (page_of inner page)) block (λ e. apart (sym e))))))))
+      ∙ (told.taken block below ∙ ap (λ (b : Bool). nat_le block logical || b)
+      (sym (name_of_other inner block page (ap₂ (λ (a b : Bool). a && b) gated (ne_eqb (inner_of (page_of inner page)) block (λ e. apart (sym e))))))))
       (cases_eq block (inner_of (page_of inner page)))
       ∙ ap (λ n. nat_le block logical || is_named_up_to inner block n) (sym (add-one page)));
   used = used_more told inside notes;
@@ -284,7 +286,8 @@ told_entry {inner} {logical} {page} {old} {new} told inside notes gated = record
   or_true true = refl
   or_true false = refl
 
-pub told_more : {inner : DieState} {logical page : ℕ} {old new : Opening} → Told inner logical page old → page < inner.shape.pages → NotesPage logical page (page_of inner page) old new → Told inner logical (page + 1) new
+pub told_more : {inner : DieState} {logical page : ℕ} {old new : Opening} → Told inner logical page old → page < inner.shape.pages → NotesPage logical page (page_of inner page) old new
+    → Told inner logical (page + 1) new
 told_more {inner} {logical} {page} {old} {new} told inside notes = ⊎_elim
     (λ gated. told_entry told inside notes gated)
     (λ plain. told_plain told inside notes plain)
@@ -341,9 +344,6 @@ sound_table_read {inner} {new} {logical} reads sound = record {
 }
 
 -- one read after others
-pub reads_refl : (die : DieState) → OnlyReads die die
-reads_refl die = record { shape = refl; cells = refl; erases = refl; fixed = refl; read_faults = omega arith; change_faults = refl }
-
 pub reads_trans : {old mid new : DieState} → OnlyReads old mid → OnlyReads mid new → OnlyReads old new
 reads_trans {old} {mid} {new} first second = record {
   shape = second.shape ∙ first.shape;
@@ -354,7 +354,8 @@ reads_trans {old} {mid} {new} first second = record {
   change_faults = second.change_faults ∙ first.change_faults;
 }
 
-pub read_only : {old new : DieState} {T E : Type 0} (result : Result T E) → SameCells old new → Kept old new → OnOk result (Passed 0 1 old new) → OnErr result (ReadFailed 0 1 old new) → OnlyReads old new
+pub read_only : {old new : DieState} {T E : Type 0} (result : Result T E) → SameCells old new → Kept old new → OnOk result (Passed 0 1 old new) → OnErr result (ReadFailed 0 1 old new)
+    → OnlyReads old new
 read_only {old} {new} result same kept passed failed = record {
   shape = kept.shape;
   cells = same.cells;
@@ -371,12 +372,14 @@ cause_after old mid new logical WrongShape reads cause = λ fits. cause (rw read
 cause_after old mid new logical DieFault reads cause = (rw (sym reads.shape) cause.0, omega (arith, cause.1, reads.read_faults))
 cause_after old mid new logical Table reads cause = (rw (sym reads.shape) cause.0, λ sound. cause.1 (sound_table_read (inside_read reads) sound))
 
-pub causes_after : (old mid new : DieState) (logical : ℕ) {T : Type 0} (result : Result T OpenError) → OnlyReads old mid → IfErr result (λ why. OpenCause why mid new logical) → IfErr result (λ why. OpenCause why old new logical)
+pub causes_after : (old mid new : DieState) (logical : ℕ) {T : Type 0} (result : Result T OpenError) → OnlyReads old mid → IfErr result (λ why. OpenCause why mid new logical)
+    → IfErr result (λ why. OpenCause why old new logical)
 causes_after old mid new logical (Ok x) reads cause = tt
 causes_after old mid new logical (Err why) reads cause = cause_after old mid new logical why reads cause
 
 -- a page that is refused is wrong
-pub wrong_cause : (inner new : DieState) (logical : ℕ) {T W : Type 0} (result : Result T OpenError) → OnErr result W → IfErr result (λ why. why ≡ Table) → FitsShape inner.shape logical → (W → IsSoundTable inner logical → ⊥)
+pub wrong_cause : (inner new : DieState) (logical : ℕ) {T W : Type 0} (result : Result T OpenError) → OnErr result W → IfErr result (λ why. why ≡ Table) → FitsShape inner.shape logical
+    → (W → IsSoundTable inner logical → ⊥)
     → IfErr result (λ why. OpenCause why inner new logical)
 wrong_cause inner new logical (Ok x) wrong is fits refutes = tt
 wrong_cause inner new logical (Err why) wrong is fits refutes = subst (λ (why : OpenError). OpenCause why inner new logical) (sym is) (fits, refutes wrong)

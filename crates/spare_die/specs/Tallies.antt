@@ -1,5 +1,8 @@
 -- What a die that replaces bad blocks counts, and how its calls count.
-use Rattle.std.specs.Prelude.{◌≡◌, ◌≢◌, ℕ, ◌≤◌, length, slice_index}
+use Rattle.std.specs.Prelude.{◌≡◌, ◌≢◌, ℕ, ◌≤◌, length, slice_index, Result, Ok, Err}
+use Rattle.cell_die.specs.declared.shape.DieFault.{DieFault}
+use Rattle.cell_die.specs.declared.worn.Erased.{Erased}
+use Rattle.cell_die.specs.declared.worn.Erased.TheVariants.{Clean, Bad}
 use Rattle.cell_die.specs.Counts.{raised}
 use Rattle.spare_die.specs.declared.tally.Tally.{Tally}
 use Rattle.spare_die.specs.Spare.{Own}
@@ -52,3 +55,9 @@ pub record SameCounts (old new : Own) : Type 0 where
   pub pages : new.pages_at_opening ≡ old.pages_at_opening
   pub read_faults : new.read_faults ≡ old.read_faults
   pub change_faults : old.change_faults ≤ new.change_faults
+
+-- the number of erases that answered Bad, after this answer
+abbrev pub bad_after : Result Erased DieFault → ℕ → ℕ
+bad_after (Ok Clean) bad = bad
+bad_after (Ok Bad) bad = raised bad
+bad_after (Err fault) bad = bad

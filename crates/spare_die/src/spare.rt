@@ -155,17 +155,9 @@ impl<D: WornDie> SpareDie<D> {
     {
         let home = self.home(block);
         self.tally.count_erase(block);
-        match self.inner.erase_or_bad(home) {
-            Ok(Erased::Clean) => Ok(Erased::Clean),
-            Ok(Erased::Bad) => {
-                self.tally.bad = self.tally.bad.saturating_add(1);
-                Ok(Erased::Bad)
-            }
-            Err(fault) => {
-                self.tally.stopped = true;
-                Err(fault)
-            }
-        }
+        let result = self.inner.erase_or_bad(home);
+        self.tally.count_answer(result);
+        result
     }
 
     /// Moves a logical block whose home went bad to a reserve block, where reserve and table have room.
@@ -311,11 +303,9 @@ impl<D: WornDie> Die for SpareDie<D> {
             return Err(self.tally.refuse_change());
         }
         let place = self.place(page);
-        if let Err(fault) = self.inner.program(place, target) {
-            self.tally.stopped = true;
-            return Err(fault);
-        }
-        Ok(())
+        let result = self.inner.program(place, target);
+        self.tally.stopped = result.is_err();
+        result
     }
 
     fn charge(&mut self, page: u32, cell: u32) -> Result<(), DieFault>
@@ -352,11 +342,9 @@ impl<D: WornDie> Die for SpareDie<D> {
             return Err(self.tally.refuse_change());
         }
         let place = self.place(page);
-        if let Err(fault) = self.inner.charge(place, cell) {
-            self.tally.stopped = true;
-            return Err(fault);
-        }
-        Ok(())
+        let result = self.inner.charge(place, cell);
+        self.tally.stopped = result.is_err();
+        result
     }
 
     fn erase(&mut self, block: u32) -> Result<(), DieFault>

@@ -1,9 +1,9 @@
 //! What the die counts since its opening. All counts of faults and of erases stand still at 2^64 - 1.
-ghost use Rattle.std.specs.Prelude.{◌≡◌, ◌<◌, length, true};
+ghost use Rattle.std.specs.Prelude.{◌≡◌, ◌<◌, ◌||◌, length, true, is_err};
 ghost use Rattle.cell_die.specs.Counts.{raised};
-ghost use Rattle.spare_die.specs.Tallies.{own_of, CountsUp, SameButErases};
+ghost use Rattle.spare_die.specs.Tallies.{own_of, CountsUp, SameButErases, bad_after};
 
-use cell_die::DieFault;
+use cell_die::{DieFault, Erased};
 
 /// The counts of a die since its opening, and two numbers of its table at the opening.
 #[derive(Drop)]
@@ -51,5 +51,16 @@ impl Tally {
     {
         let block = block as usize;
         self.erases[block] = self.erases[block].saturating_add(1);
+    }
+
+    /// Counts how an erase of the inner die ended. After one that failed every later call fails.
+    pub fn count_answer(&mut self, answer: Result<Erased, DieFault>)
+        ensures { self.new ≡ record self.old { bad = bad_after answer self.old.bad; stopped = self.old.stopped || is_err answer } }
+    {
+        match answer {
+            Ok(Erased::Clean) => {}
+            Ok(Erased::Bad) => self.bad = self.bad.saturating_add(1),
+            Err(_) => self.stopped = true,
+        }
     }
 }

@@ -1,6 +1,6 @@
--- What one of the two dies leaves of the pair. The other die stays as it was, so each fact on the pair is the same fact on the
--- one die, at the place of the page or block.
-use Rattle.std.proofs.Common.{◌≡◌, ◌≢◌, ◌⊎◌, inl, inr, ℕ, ◌+◌, ◌*◌, ◌/◌, ◌%◌, ◌<◌, ◌≤◌, List, refl, ap, ap₂, sym, subst, ◌∙◌, arith, map, get_or}
+-- A call of one of the two dies, by its place: P holds of the die that stands there, and the other die stays as it was. So each
+-- fact on the pair is the same fact on the one die, at the place of the page or block.
+use Rattle.std.proofs.Common.{◌≡◌, ◌≢◌, ◌⊎◌, inl, inr, ℕ, ◌+◌, ◌*◌, ◌/◌, ◌%◌, ◌<◌, ◌≤◌, List, refl, ap, ap₂, sym, subst, ◌∙◌, arith, map, get_or, ⊎_elim}
 use Rattle.std.proofs.lemmas.Nat.{div-mul-add}
 use Rattle.std.specs.List.{range_with_len}
 use Rattle.cell_die.specs.declared.shape.Shape.{Shape}
@@ -13,7 +13,7 @@ use Rattle.cell_die.proofs.Sequences.{kept_refl}
 use Rattle.stripe_die.specs.declared.half.Half.{Half}
 use Rattle.stripe_die.specs.declared.half.Half.TheVariants.{First, Second}
 use Rattle.stripe_die.specs.Places.{block_place, page_place, with_number, at_place}
-use Rattle.stripe_die.specs.Pair.{pair_state, pair_shape, pair_count}
+use Rattle.stripe_die.specs.Pair.{pair_state, pair_shape, pair_count, OnOne}
 use Rattle.stripe_die.specs.PairLaws.{block_back, block_back-place, page_back, page_back-place, number_at, page_inside, page_of-pair, count_of-pair}
 
 -- two dies that make a pair
@@ -22,264 +22,232 @@ pub record Halves (a b : DieState) : Type 0 where
   pub first : IsShaped a
   pub second : IsShaped b
 
--- what holds of both dies at their places holds of what stands there
-along : {T : Type 0} (R : T → T → Type 0) (f g f' g' : ℕ → T) (place : Half) → ((n : ℕ) → place ≡ First n → R (f n) (f' n)) → ((n : ℕ) → place ≡ Second n → R (g n) (g' n))
-    → R (at_place f g place) (at_place f' g' place)
-along R f g f' g' (First n) one two = one n refl
-along R f g f' g' (Second n) one two = two n refl
+pub two : {a b : DieState} → b.shape ≡ a.shape → IsShaped a → IsShaped b → Halves a b
+two same first second = record { same = same; first = first; second = second }
+
+-- P holds of the die that stands there, before and after, and the other die stays as it was
+pub record CallAt (place : Half) (P : DieState → DieState → Type 0) (a b a' b' : DieState) : Type 0 where
+  pub before : Halves a b
+  pub after : Halves a' b'
+  pub shape : a'.shape ≡ a.shape
+  pub holds : OnOne place P a b a' b'
+
+-- the same call, of which Q holds
+again : {P Q : DieState → DieState → Type 0} {place : Half} {a b a' b' : DieState} → CallAt place P a b a' b' → OnOne place Q a b a' b' → CallAt place Q a b a' b'
+again call holds = record { before = call.before; after = call.after; shape = call.shape; holds = holds }
+
+pub weaker : {P Q : DieState → DieState → Type 0} (place : Half) {a b a' b' : DieState} → CallAt place P a b a' b'
+    → ((old new : DieState) → P old new → Q old new) → CallAt place Q a b a' b'
+weaker {P} {Q} (First n) {a} {b} {a'} {b'} call to = again call (to a a' call.holds.0, call.holds.1)
+weaker {P} {Q} (Second n) {a} {b} {a'} {b'} call to = again call (to b b' call.holds.0, call.holds.1)
+
+-- what holds of a die that stays as it was holds of both
+pub both : (R : DieState → DieState → Type 0) → ((die : DieState) → R die die) → (place : Half) {a b a' b' : DieState} → CallAt place R a b a' b' → R a a' × R b b'
+both R same (First n) {a} {b} call = (call.holds.0, subst (R b) (sym call.holds.1) (same b))
+both R same (Second n) {a} {b} call = (subst (R a) (sym call.holds.1) (same a), call.holds.0)
+
+-- the key of what stands there, in its die
+abbrev keyed : (DieState → ℕ → ℕ) → DieState → DieState → Half → Half
+keyed key a b place = at_place (λ n. First (key a n)) (λ n. Second (key b n)) place
+
+-- what holds in the die of all that has the number of the place for its key holds of the pair
+along : {T : Type 0} (key : DieState → ℕ → ℕ) (f : DieState → ℕ → T) (R : T → T → Type 0) (place other : Half) {a b a' b' : DieState}
+    → CallAt place (λ old new. (n : ℕ) → key old n ≡ number_at place → R (f old n) (f new n)) a b a' b' → keyed key a b other ≡ place
+    → R (at_place (f a) (f b) other) (at_place (f a') (f b') other)
+along key f R (First m) (First n) call here = call.holds.0 n (cc)
+along key f R (First m) (Second n) call here = absurd (cc)
+along key f R (Second m) (First n) call here = absurd (cc)
+along key f R (Second m) (Second n) call here = call.holds.0 n (cc)
+
+-- and what else stays in that die stays in the pair
+others_stay : {T : Type 0} (key : DieState → ℕ → ℕ) (f : DieState → ℕ → T) (place other : Half) {a b a' b' : DieState}
+    → CallAt place (λ old new. (n : ℕ) → key old n ≢ number_at place → f new n ≡ f old n) a b a' b' → (keyed key a b other ≡ place → ⊥)
+    → at_place (f a') (f b') other ≡ at_place (f a) (f b) other
+others_stay key f (First m) (First n) call apart = call.holds.0 n (λ is. apart (ap First is))
+others_stay key f (First m) (Second n) call apart = ap (λ die. f die n) call.holds.1
+others_stay key f (Second m) (First n) call apart = ap (λ die. f die n) call.holds.1
+others_stay key f (Second m) (Second n) call apart = call.holds.0 n (λ is. apart (ap Second is))
+
+-- a number is its own key
+abbrev own : DieState → ℕ → ℕ
+own die n = n
+
+keyed_own : (a b : DieState) (place : Half) → keyed own a b place ≡ place
+keyed_own a b (First n) = refl
+keyed_own a b (Second n) = refl
+
+-- the block of a page's place is the place of the page's block
+block_at : {a b : DieState} (page : ℕ) → Halves a b → keyed block_of a b (page_place a.shape.pages page) ≡ block_place (page / a.shape.pages)
+block_at {a} {b} page halves = go (block_place (page / a.shape.pages)) (omega (arith, halves.first.some_pages)) where
+  go : (place : Half) → page % a.shape.pages < a.shape.pages → keyed block_of a b (with_number (λ block. block * a.shape.pages + page % a.shape.pages) place) ≡ place
+  go (First n) within = ap First (div-mul-add n a.shape.pages (page % a.shape.pages) within)
+  go (Second n) within = rw halves.same (ap Second (div-mul-add n a.shape.pages (page % a.shape.pages) within))
 
 -- places tell pages and blocks apart
-pub page_place-apart : (pages page other : ℕ) → 0 < pages → other ≢ page → page_place pages other ≡ page_place pages page → ⊥
+page_place-apart : (pages page other : ℕ) → 0 < pages → other ≢ page → page_place pages other ≡ page_place pages page → ⊥
 page_place-apart pages page other some apart same =
     apart (sym (page_back-place pages other some) ∙ (ap (page_back pages) same ∙ page_back-place pages page some))
 
-pub block_place-apart : (block other : ℕ) → other ≢ block → block_place other ≡ block_place block → ⊥
+block_place-apart : (block other : ℕ) → other ≢ block → block_place other ≡ block_place block → ⊥
 block_place-apart block other apart same = apart (sym (block_back-place other) ∙ (ap block_back same ∙ block_back-place block))
 
--- the pages of two pairs of the same shape
-pages_along : (R : List ℕ → List ℕ → Type 0) (a b a' b' : DieState) → Halves a b → Halves a' b' → a'.shape ≡ a.shape → (page : ℕ)
-    → ((n : ℕ) → page_place a.shape.pages page ≡ First n → R (page_of a n) (page_of a' n))
-    → ((n : ℕ) → page_place a.shape.pages page ≡ Second n → R (page_of b n) (page_of b' n))
+-- the pages and the counts of the pair stand at their places
+module _ {place : Half} {P : DieState → DieState → Type 0} {a b a' b' : DieState} (call : CallAt place P a b a' b') where
+  pages_along : (R : List ℕ → List ℕ → Type 0) (page : ℕ)
+      → R (at_place (page_of a) (page_of b) (page_place a.shape.pages page)) (at_place (page_of a') (page_of b') (page_place a.shape.pages page))
+      → R (page_of (pair_state a b) page) (page_of (pair_state a' b') page)
+  pages_along R page holds = rw (
+    page_of-pair a b call.before.same call.before.first call.before.second page,
+    page_of-pair a' b' call.after.same call.after.first call.after.second page,
+    call.shape,
+  ) holds
+
+  counts_along : (R : ℕ → ℕ → Type 0) (block : ℕ) → R (at_place (erases_of a) (erases_of b) (block_place block)) (at_place (erases_of a') (erases_of b') (block_place block))
+      → R (erases_of (pair_state a b) block) (erases_of (pair_state a' b') block)
+  counts_along R block holds = rw (
+    count_of-pair a b call.before.same call.before.first call.before.second block,
+    count_of-pair a' b' call.after.same call.after.first call.after.second block,
+  ) holds
+
+-- what holds at the place holds of the pair
+here : {T : Type 0} (f : DieState → ℕ → T) (R : T → T → Type 0) (place : Half) {a b a' b' : DieState}
+    → CallAt place (λ old new. R (f old (number_at place)) (f new (number_at place))) a b a' b' → R (at_place (f a) (f b) place) (at_place (f a') (f b') place)
+here f R (First n) call = call.holds.0
+here f R (Second n) call = call.holds.0
+
+-- the cells of a page
+pub page_pair : {a b a' b' : DieState} (R : List ℕ → List ℕ → Type 0) (page : ℕ)
+    → CallAt (page_place a.shape.pages page) (λ old new. R (page_of old (number_at (page_place a.shape.pages page))) (page_of new (number_at (page_place a.shape.pages page)))) a b a' b'
     → R (page_of (pair_state a b) page) (page_of (pair_state a' b') page)
-pages_along R a b a' b' before after shape page one two =
-    rw (page_of-pair a b before.same before.first before.second page, page_of-pair a' b' after.same after.first after.second page, shape)
-    (along R (page_of a) (page_of b) (page_of a') (page_of b') (page_place a.shape.pages page) one two)
+page_pair {a} {b} {a'} {b'} R page call = pages_along call R page (here page_of R (page_place a.shape.pages page) call)
 
-counts_along : (R : ℕ → ℕ → Type 0) (a b a' b' : DieState) → Halves a b → Halves a' b' → (block : ℕ)
-    → ((n : ℕ) → block_place block ≡ First n → R (erases_of a n) (erases_of a' n))
-    → ((n : ℕ) → block_place block ≡ Second n → R (erases_of b n) (erases_of b' n))
-    → R (erases_of (pair_state a b) block) (erases_of (pair_state a' b') block)
-counts_along R a b a' b' before after block one two =
-    rw (count_of-pair a b before.same before.first before.second block, count_of-pair a' b' after.same after.first after.second block)
-    (along R (erases_of a) (erases_of b) (erases_of a') (erases_of b') (block_place block) one two)
+same_erases : (a b a' b' : DieState) → a'.shape ≡ a.shape → (a'.erases ≡ a.erases) × (b'.erases ≡ b.erases) → (pair_state a' b').erases ≡ (pair_state a b).erases
+same_erases a b a' b' shape same =
+    ap (λ (shape : Shape). map (pair_count a' b') (range_with_len 0 (2 * shape.blocks))) shape
+    ∙ ap₂ (λ (xs ys : List ℕ). map (λ block. at_place (λ n. get_or xs n 0) (λ n. get_or ys n 0) (block_place block)) (range_with_len 0 (2 * a.shape.blocks))) same.0 same.1
 
--- the block of a page's place is the place of the page's block
-block_at : (pages page : ℕ) → 0 < pages → with_number (λ n. n / pages) (page_place pages page) ≡ block_place (page / pages)
-block_at pages page some = go (block_place (page / pages)) (omega arith) where
-  go : (place : Half) → page % pages < pages → with_number (λ n. n / pages) (with_number (λ block. block * pages + page % pages) place) ≡ place
-  go (First n) within = ap First (div-mul-add n pages (page % pages) within)
-  go (Second n) within = ap Second (div-mul-add n pages (page % pages) within)
+pub only_page_pair : {a b a' b' : DieState} (page : ℕ) → CallAt (page_place a.shape.pages page) (OnlyPage (number_at (page_place a.shape.pages page))) a b a' b'
+    → OnlyPage page (pair_state a b) (pair_state a' b')
+only_page_pair {a} {b} {a'} {b'} page call =
+    let place : Half = page_place a.shape.pages page in record {
+      others = λ other apart. pages_along call (λ old new. new ≡ old) other (
+          others_stay own page_of place (page_place a.shape.pages other) (weaker place call (λ old new only. only.others))
+          (λ same. page_place-apart a.shape.pages page other call.before.first.some_pages apart (sym (keyed_own a b (page_place a.shape.pages other)) ∙ same))
+          );
+      erases = same_erases a b a' b' call.shape (both (λ old new. new.erases ≡ old.erases) (λ die. refl) place (weaker place call (λ old new only. only.erases)));
+    }
 
-first_block : (pages page n : ℕ) → 0 < pages → page_place pages page ≡ First n → block_place (page / pages) ≡ First (n / pages)
-first_block pages page n some at = sym (block_at pages page some) ∙ ap (with_number (λ k. k / pages)) at
+pub same_cells_pair : {a b a' b' : DieState} (place : Half) → CallAt place SameCells a b a' b' → SameCells (pair_state a b) (pair_state a' b')
+same_cells_pair {a} {b} {a'} {b'} place call =
+    let same : SameCells a a' × SameCells b b' = both SameCells (λ die. record { cells = refl; erases = refl }) place call in record {
+      cells = ap (λ (shape : Shape). map (λ page. at_place (page_of a') (page_of b') (page_place shape.pages page)) (range_with_len 0 (2 * shape.blocks * shape.pages))) call.shape
+          ∙ ap₂ (λ (xs ys : List (List ℕ)). map (λ page. at_place (page_at xs) (page_at ys) (page_place a.shape.pages page)) (range_with_len 0 (2 * a.shape.blocks * a.shape.pages)))
+          same.0.cells same.1.cells;
+      erases = same_erases a b a' b' call.shape (same.0.erases, same.1.erases);
+    }
 
-second_block : (pages page n : ℕ) → 0 < pages → page_place pages page ≡ Second n → block_place (page / pages) ≡ Second (n / pages)
-second_block pages page n some at = sym (block_at pages page some) ∙ ap (with_number (λ k. k / pages)) at
-
--- a call on a page or block that stands here: P holds of it in its die
-pub record Serves (place : Half) (P : ℕ → DieState → DieState → Type 0) (a b a' b' : DieState) : Type 0 where
-  pub first : (n : ℕ) → place ≡ First n → P n a a'
-  pub second : (n : ℕ) → place ≡ Second n → P n b b'
-
-pub serves_first : {place : Half} {n : ℕ} (P : ℕ → DieState → DieState → Type 0) (a b a' b' : DieState) → place ≡ First n → P n a a' → Serves place P a b a' b'
-serves_first {place} {n} P a b a' b' is holds = record {
-  first = λ k at. let same : n ≡ k = cc in subst (λ m. P m a a') same holds;
-  second = λ k at. absurd (cc);
-}
-
-pub serves_second : {place : Half} {n : ℕ} (P : ℕ → DieState → DieState → Type 0) (a b a' b' : DieState) → place ≡ Second n → P n b b' → Serves place P a b a' b'
-serves_second {place} {n} P a b a' b' is holds = record {
-  first = λ k at. absurd (cc);
-  second = λ k at. let same : n ≡ k = cc in subst (λ m. P m b b') same holds;
-}
-
--- what a call leaves of a pair that stays one of its shape
-pub record Steps (a b a' b' : DieState) : Type 0 where
-  pub before : Halves a b
-  pub after : Halves a' b'
-  pub first : Kept a a'
-  pub second : Kept b b'
-
-pub steps_first : {a b a' : DieState} → Halves a b → IsShaped a' → Kept a a' → Steps a b a' b
-steps_first {a} {b} {a'} halves shaped kept = record {
-  before = halves;
-  after = record { same = halves.same ∙ sym kept.shape; first = shaped; second = halves.second };
-  first = kept;
-  second = kept_refl b;
-}
-
-pub steps_second : {a b b' : DieState} → Halves a b → IsShaped b' → Kept b b' → Steps a b a b'
-steps_second {a} {b} {b'} halves shaped kept = record {
-  before = halves;
-  after = record { same = kept.shape ∙ halves.same; first = halves.first; second = shaped };
-  first = kept_refl a;
-  second = kept;
-}
-
-pub kept_pair : {a b a' b' : DieState} → Steps a b a' b' → Kept (pair_state a b) (pair_state a' b')
-kept_pair {a} {b} {a'} {b'} steps = record {
-  shape = ap pair_shape steps.first.shape;
+pub kept_pair : {a b a' b' : DieState} (place : Half) → CallAt place Kept a b a' b' → Kept (pair_state a b) (pair_state a' b')
+kept_pair {a} {b} {a'} {b'} place call = record {
+  shape = ap pair_shape call.shape;
   fixed = refl;
   never_falls = record {
-    counts = λ block. counts_along (λ old new. old ≤ new) a b a' b' steps.before steps.after block
-        (λ n at. steps.first.never_falls.counts n) (λ n at. steps.second.never_falls.counts n);
-    cells = λ page stayed. pages_along (λ old new. IsAbove new old) a b a' b' steps.before steps.after steps.first.shape page
-        (λ n at. steps.first.never_falls.cells n (stays page stayed (First (n / a.shape.pages)) (first_block a.shape.pages page n steps.before.first.some_pages at)))
-        (λ n at. steps.second.never_falls.cells n
-        (let pages : n / a.shape.pages ≡ block_of b n = ap (λ (shape : Shape). n / shape.pages) (sym steps.before.same) in
-        subst (λ block. Stayed (erases_of b block) (erases_of b' block)) pages
-        (stays page stayed (Second (n / a.shape.pages)) (second_block a.shape.pages page n steps.before.first.some_pages at))));
+    counts = λ block. counts_along call (λ old new. old ≤ new) block (counts (block_place block));
+    cells = λ page stayed. pages_along call (λ old new. IsAbove new old) page (cells (page_place a.shape.pages page) (rw (block_at page call.before) (counts_back page stayed)));
   };
-  read_faults = omega (arith, steps.first.read_faults, steps.second.read_faults);
-  change_faults = omega (arith, steps.first.change_faults, steps.second.change_faults);
+  read_faults = omega (arith, kept.0.read_faults, kept.1.read_faults);
+  change_faults = omega (arith, kept.0.change_faults, kept.1.change_faults);
 } where
-  stays : (page : ℕ) → Stayed (erases_of (pair_state a b) (page / a.shape.pages)) (erases_of (pair_state a' b') (page / a.shape.pages)) → (place : Half)
-      → block_place (page / a.shape.pages) ≡ place → Stayed (at_place (erases_of a) (erases_of b) place) (at_place (erases_of a') (erases_of b') place)
-  stays page stayed place at = subst (λ here. Stayed (at_place (erases_of a) (erases_of b) here) (at_place (erases_of a') (erases_of b') here)) at
-      (rw (
-        count_of-pair a b steps.before.same steps.before.first steps.before.second (page / a.shape.pages),
-        count_of-pair a' b' steps.after.same steps.after.first steps.after.second (page / a.shape.pages),
-      ) at stayed)
+  kept : Kept a a' × Kept b b'
+  kept = both Kept kept_refl place call
 
--- the page of the pair is the page at its place
-pub first_page : {a b : DieState} {n : ℕ} (page : ℕ) → Halves a b → page_place a.shape.pages page ≡ First n → page_of (pair_state a b) page ≡ page_of a n
-first_page {a} {b} {n} page halves at = page_of-pair a b halves.same halves.first halves.second page ∙ ap (at_place (page_of a) (page_of b)) at
+  counts : (other : Half) → at_place (erases_of a) (erases_of b) other ≤ at_place (erases_of a') (erases_of b') other
+  counts (First n) = kept.0.never_falls.counts n
+  counts (Second n) = kept.1.never_falls.counts n
 
-pub second_page : {a b : DieState} {n : ℕ} (page : ℕ) → Halves a b → page_place a.shape.pages page ≡ Second n → page_of (pair_state a b) page ≡ page_of b n
-second_page {a} {b} {n} page halves at = page_of-pair a b halves.same halves.first halves.second page ∙ ap (at_place (page_of a) (page_of b)) at
+  StaysAt : Half → Type 0
+  StaysAt block = Stayed (at_place (erases_of a) (erases_of b) block) (at_place (erases_of a') (erases_of b') block)
 
--- the same after a call
-pub first_page_after : {a b a' b' : DieState} {n : ℕ} (page : ℕ) → Steps a b a' b' → page_place a.shape.pages page ≡ First n → page_of (pair_state a' b') page ≡ page_of a' n
-first_page_after {a} {b} {a'} {b'} {n} page steps at =
-    first_page page steps.after (ap (λ (shape : Shape). page_place shape.pages page) steps.first.shape ∙ at)
+  cells : (other : Half) → StaysAt (keyed block_of a b other) → IsAbove (at_place (page_of a') (page_of b') other) (at_place (page_of a) (page_of b) other)
+  cells (First n) stayed = kept.0.never_falls.cells n stayed
+  cells (Second n) stayed = kept.1.never_falls.cells n stayed
 
-pub second_page_after : {a b a' b' : DieState} {n : ℕ} (page : ℕ) → Steps a b a' b' → page_place a.shape.pages page ≡ Second n → page_of (pair_state a' b') page ≡ page_of b' n
-second_page_after {a} {b} {a'} {b'} {n} page steps at =
-    second_page page steps.after (ap (λ (shape : Shape). page_place shape.pages page) steps.first.shape ∙ at)
+  counts_back : (page : ℕ) → Stayed (erases_of (pair_state a b) (page / a.shape.pages)) (erases_of (pair_state a' b') (page / a.shape.pages)) → StaysAt (block_place (page / a.shape.pages))
+  counts_back page stayed = rw (
+    count_of-pair a b call.before.same call.before.first call.before.second (page / a.shape.pages),
+    count_of-pair a' b' call.after.same call.after.first call.after.second (page / a.shape.pages),
+  ) at stayed
 
--- a page or block that the pair has is one that its die has
-pub first_inside : {a b : DieState} {n : ℕ} (page : ℕ) → Halves a b → page_place a.shape.pages page ≡ First n → page < page_count (pair_shape a.shape) → n < page_count a.shape
-first_inside {a} {b} {n} page halves at below =
-    let inside : number_at (page_place a.shape.pages page) < page_count a.shape = page_inside a.shape.pages page a.shape.blocks halves.first.some_pages below in
-    subst (λ place. number_at place < page_count a.shape) at inside
+-- what holds in the die of the block's pages holds in the pair
+block_pages : {a b a' b' : DieState} (R : List ℕ → List ℕ → Type 0) (block page : ℕ)
+    → CallAt (block_place block) (λ old new. (n : ℕ) → block_of old n ≡ number_at (block_place block) → R (page_of old n) (page_of new n)) a b a' b' → page / a.shape.pages ≡ block
+    → R (page_of (pair_state a b) page) (page_of (pair_state a' b') page)
+block_pages {a} {b} {a'} {b'} R block page call here =
+    pages_along call R page (along block_of page_of R (block_place block) (page_place a.shape.pages page) call (block_at page call.before ∙ ap block_place here))
 
-pub second_inside : {a b : DieState} {n : ℕ} (page : ℕ) → Halves a b → page_place a.shape.pages page ≡ Second n → page < page_count (pair_shape a.shape) → n < page_count b.shape
-second_inside {a} {b} {n} page halves at below =
-    let inside : number_at (page_place a.shape.pages page) < page_count a.shape = page_inside a.shape.pages page a.shape.blocks halves.first.some_pages below in
-    rw halves.same (subst (λ place. number_at place < page_count a.shape) at inside)
+block_count : {a b a' b' : DieState} (block : ℕ)
+    → CallAt (block_place block) (λ old new. erases_of new (number_at (block_place block)) ≡ raised (erases_of old (number_at (block_place block)))) a b a' b'
+    → erases_of (pair_state a' b') block ≡ raised (erases_of (pair_state a b) block)
+block_count block call = counts_along call (λ old new. new ≡ raised old) block (here erases_of (λ old new. new ≡ raised old) (block_place block) call)
 
-pub first_block_inside : {a b : DieState} {n : ℕ} (block : ℕ) → Halves a b → block_place block ≡ First n → block < (pair_shape a.shape).blocks → n < a.shape.blocks
-first_block_inside {a} {b} {n} block halves at below = let back : 2 * n ≡ block = sym (ap block_back at) ∙ block_back-place block in omega arith
+pub only_block_pair : {a b a' b' : DieState} (block : ℕ) → CallAt (block_place block) (OnlyBlock (number_at (block_place block))) a b a' b' → OnlyBlock block (pair_state a b) (pair_state a' b')
+only_block_pair {a} {b} {a'} {b'} block call =
+    let place : Half = block_place block in record {
+      pages = λ page apart. pages_along call (λ old new. new ≡ old) page (
+          others_stay block_of page_of place (page_place a.shape.pages page) (weaker place call (λ old new only. only.pages))
+          (λ same. block_place-apart block (page / a.shape.pages) apart (sym (block_at page call.before) ∙ same))
+          );
+      counts = λ other apart. counts_along call (λ old new. new ≡ old) other (
+          others_stay own erases_of place (block_place other) (weaker place call (λ old new only. only.counts))
+          (λ same. block_place-apart block other apart (sym (keyed_own a b (block_place other)) ∙ same))
+          );
+    }
 
-pub second_block_inside : {a b : DieState} {n : ℕ} (block : ℕ) → Halves a b → block_place block ≡ Second n → block < (pair_shape a.shape).blocks → n < b.shape.blocks
-second_block_inside {a} {b} {n} block halves at below = let back : 2 * n + 1 ≡ block = sym (ap block_back at) ∙ block_back-place block in rw halves.same (omega arith)
-
--- no die changed but in the page that stands here
-pub record OnlyAt (place : Half) (a b a' b' : DieState) : Type 0 where
-  pub first : (n : ℕ) → (place ≡ First n → ⊥) → page_of a' n ≡ page_of a n
-  pub second : (n : ℕ) → (place ≡ Second n → ⊥) → page_of b' n ≡ page_of b n
-  pub first_erases : a'.erases ≡ a.erases
-  pub second_erases : b'.erases ≡ b.erases
-
-pub only_at_first : {place : Half} {n : ℕ} (a b a' : DieState) → place ≡ First n → OnlyPage n a a' → OnlyAt place a b a' b
-only_at_first {place} {n} a b a' is only = record {
-  first = λ k apart. only.others k (λ same. apart (is ∙ ap First (sym same)));
-  second = λ k apart. refl;
-  first_erases = only.erases;
-  second_erases = refl;
-}
-
-pub only_at_second : {place : Half} {n : ℕ} (a b b' : DieState) → place ≡ Second n → OnlyPage n b b' → OnlyAt place a b a b'
-only_at_second {place} {n} a b b' is only = record {
-  first = λ k apart. refl;
-  second = λ k apart. only.others k (λ same. apart (is ∙ ap Second (sym same)));
-  first_erases = refl;
-  second_erases = only.erases;
-}
-
-same_erases : (a b a' b' : DieState) → a'.shape ≡ a.shape → a'.erases ≡ a.erases → b'.erases ≡ b.erases → (pair_state a' b').erases ≡ (pair_state a b).erases
-same_erases a b a' b' shape first second =
-    ap (λ (shape : Shape). map (pair_count a' b') (range_with_len 0 (2 * shape.blocks))) shape
-    ∙ ap₂ (λ (xs ys : List ℕ). map (λ block. at_place (λ n. get_or xs n 0) (λ n. get_or ys n 0) (block_place block)) (range_with_len 0 (2 * a.shape.blocks))) first second
-
-pub only_page_pair : {a b a' b' : DieState} (page : ℕ) → Steps a b a' b' → OnlyAt (page_place a.shape.pages page) a b a' b' → OnlyPage page (pair_state a b) (pair_state a' b')
-only_page_pair {a} {b} {a'} {b'} page steps only = record {
-  others = λ other apart.
-      let differs : page_place a.shape.pages other ≡ page_place a.shape.pages page → ⊥ = page_place-apart a.shape.pages page other steps.before.first.some_pages apart in
-      pages_along (λ old new. new ≡ old) a b a' b' steps.before steps.after steps.first.shape other
-      (λ n at. only.first n (λ here. differs (at ∙ sym here)))
-      (λ n at. only.second n (λ here. differs (at ∙ sym here)));
-  erases = same_erases a b a' b' steps.first.shape only.first_erases only.second_erases;
-}
-
-pub same_cells_pair : {a b a' b' : DieState} → a'.shape ≡ a.shape → SameCells a a' → SameCells b b' → SameCells (pair_state a b) (pair_state a' b')
-same_cells_pair {a} {b} {a'} {b'} shape first second = record {
-  cells = ap (λ (shape : Shape). map (λ page. at_place (page_of a') (page_of b') (page_place shape.pages page)) (range_with_len 0 (2 * shape.blocks * shape.pages))) shape
-      ∙ ap₂ (λ (xs ys : List (List ℕ)). map (λ page. at_place (λ n. page_at xs n) (λ n. page_at ys n) (page_place a.shape.pages page))
-      (range_with_len 0 (2 * a.shape.blocks * a.shape.pages))) first.cells second.cells;
-  erases = same_erases a b a' b' shape first.erases second.erases;
-}
-
-pub same_cells_refl : (die : DieState) → SameCells die die
-same_cells_refl die = record { cells = refl; erases = refl }
-
--- no die changed but in the block that stands here
-pub record OnlyBlockAt (place : Half) (a b a' b' : DieState) : Type 0 where
-  pub first : (page : ℕ) → (place ≡ First (block_of a page) → ⊥) → page_of a' page ≡ page_of a page
-  pub second : (page : ℕ) → (place ≡ Second (block_of b page) → ⊥) → page_of b' page ≡ page_of b page
-  pub first_counts : (n : ℕ) → (place ≡ First n → ⊥) → erases_of a' n ≡ erases_of a n
-  pub second_counts : (n : ℕ) → (place ≡ Second n → ⊥) → erases_of b' n ≡ erases_of b n
-
-pub only_block_at_first : {place : Half} {n : ℕ} (a b a' : DieState) → place ≡ First n → OnlyBlock n a a' → OnlyBlockAt place a b a' b
-only_block_at_first {place} {n} a b a' is only = record {
-  first = λ page apart. only.pages page (λ same. apart (is ∙ ap First (sym same)));
-  second = λ page apart. refl;
-  first_counts = λ k apart. only.counts k (λ same. apart (is ∙ ap First (sym same)));
-  second_counts = λ k apart. refl;
-}
-
-pub only_block_at_second : {place : Half} {n : ℕ} (a b b' : DieState) → place ≡ Second n → OnlyBlock n b b' → OnlyBlockAt place a b a b'
-only_block_at_second {place} {n} a b b' is only = record {
-  first = λ page apart. refl;
-  second = λ page apart. only.pages page (λ same. apart (is ∙ ap Second (sym same)));
-  first_counts = λ k apart. refl;
-  second_counts = λ k apart. only.counts k (λ same. apart (is ∙ ap Second (sym same)));
-}
-
--- the block of a page in its die
-second_block_of : (a b : DieState) (page n : ℕ) → Halves a b → page_place a.shape.pages page ≡ Second n → block_place (page / a.shape.pages) ≡ Second (block_of b n)
-second_block_of a b page n halves at =
-    second_block a.shape.pages page n halves.first.some_pages at ∙ ap (λ (shape : Shape). Second (n / shape.pages)) (sym halves.same)
-
-pub only_block_pair : {a b a' b' : DieState} (block : ℕ) → Steps a b a' b' → OnlyBlockAt (block_place block) a b a' b' → OnlyBlock block (pair_state a b) (pair_state a' b')
-only_block_pair {a} {b} {a'} {b'} block steps only = record {
-  pages = λ page apart.
-      let differs : block_place (page / a.shape.pages) ≡ block_place block → ⊥ = block_place-apart block (page / a.shape.pages) apart in
-      pages_along (λ old new. new ≡ old) a b a' b' steps.before steps.after steps.first.shape page
-      (λ n at. only.first n (λ here. differs (first_block a.shape.pages page n steps.before.first.some_pages at ∙ sym here)))
-      (λ n at. only.second n (λ here. differs (second_block_of a b page n steps.before at ∙ sym here)));
-  counts = λ other apart.
-      let differs : block_place other ≡ block_place block → ⊥ = block_place-apart block other apart in
-      counts_along (λ old new. new ≡ old) a b a' b' steps.before steps.after other
-      (λ n at. only.first_counts n (λ here. differs (at ∙ sym here)))
-      (λ n at. only.second_counts n (λ here. differs (at ∙ sym here)));
-}
-
-pub is_erased_pair : {a b a' b' : DieState} (block : ℕ) → Steps a b a' b' → Serves (block_place block) IsErased a b a' b' → IsErased block (pair_state a b) (pair_state a' b')
-is_erased_pair {a} {b} {a'} {b'} block steps serves = record {
-  blank = λ page here. pages_along (λ old new. new ≡ blank_page (page_bytes a.shape)) a b a' b' steps.before steps.after steps.first.shape page
-      (λ n at. (serves.first (block_of a n) (ap block_place (sym here) ∙ first_block a.shape.pages page n steps.before.first.some_pages at)).blank n refl)
-      (λ n at. (serves.second (block_of b n) (ap block_place (sym here) ∙ second_block_of a b page n steps.before at)).blank n refl
-      ∙ ap (λ (shape : Shape). blank_page (page_bytes shape)) steps.before.same);
-  count = counts_along (λ old new. new ≡ raised old) a b a' b' steps.before steps.after block (λ n at. (serves.first n at).count) (λ n at. (serves.second n at).count);
-}
-
-pub erased_in_part_pair : {a b a' b' : DieState} (block : ℕ) → Steps a b a' b' → Serves (block_place block) ErasedInPart a b a' b'
-    → ErasedInPart block (pair_state a b) (pair_state a' b')
-erased_in_part_pair {a} {b} {a'} {b'} block steps serves = record {
-  below = λ page here. pages_along (λ old new. IsAbove old new) a b a' b' steps.before steps.after steps.first.shape page
-      (λ n at. (serves.first (block_of a n) (ap block_place (sym here) ∙ first_block a.shape.pages page n steps.before.first.some_pages at)).below n refl)
-      (λ n at. (serves.second (block_of b n) (ap block_place (sym here) ∙ second_block_of a b page n steps.before at)).below n refl);
-  count = counts_along (λ old new. new ≡ raised old) a b a' b' steps.before steps.after block (λ n at. (serves.first n at).count) (λ n at. (serves.second n at).count);
-}
+pub is_erased_pair : {a b a' b' : DieState} (block : ℕ) → CallAt (block_place block) (IsErased (number_at (block_place block))) a b a' b' → IsErased block (pair_state a b) (pair_state a' b')
+is_erased_pair {a} {b} {a'} {b'} block call = record {
+  blank = λ page here. block_pages (λ old new. new ≡ blank_page (page_bytes a.shape)) block page (blank (block_place block) call) here;
+  count = block_count block (weaker (block_place block) call (λ old new erased. erased.count));
+} where
+  -- the pages of both dies are as long
+  blank : (place : Half) → CallAt place (IsErased (number_at place)) a b a' b'
+      → CallAt place (λ old new. (n : ℕ) → block_of old n ≡ number_at place → page_of new n ≡ blank_page (page_bytes a.shape)) a b a' b'
+  blank (First m) call = again call (call.holds.0.blank, call.holds.1)
+  blank (Second m) call = again call (λ n here. call.holds.0.blank n here ∙ ap (λ (shape : Shape). blank_page (page_bytes shape)) call.before.same, call.holds.1)
 
 -- a failed erase of one die
-pub in_part_first : {a b a' : DieState} {n : ℕ} (block : ℕ) → Steps a b a' b → block_place block ≡ First n → SameCells a a' ⊎ ErasedInPart n a a'
-    → SameCells (pair_state a b) (pair_state a' b) ⊎ ErasedInPart block (pair_state a b) (pair_state a' b)
-in_part_first {a} {b} {a'} {n} block steps at (inl same) = inl (same_cells_pair steps.first.shape same (same_cells_refl b))
-in_part_first {a} {b} {a'} {n} block steps at (inr part) = inr (erased_in_part_pair block steps (serves_first ErasedInPart a b a' b at part))
+pub in_part_pair : {a b a' b' : DieState} (block : ℕ) → CallAt (block_place block) (λ old new. SameCells old new ⊎ ErasedInPart (number_at (block_place block)) old new) a b a' b'
+    → SameCells (pair_state a b) (pair_state a' b') ⊎ ErasedInPart block (pair_state a b) (pair_state a' b')
+in_part_pair {a} {b} {a'} {b'} block call = go (cases (block_place block) call) where
+  Cases : Half → Type 0
+  Cases place = CallAt place SameCells a b a' b' ⊎ CallAt place (ErasedInPart (number_at place)) a b a' b'
 
-pub in_part_second : {a b b' : DieState} {n : ℕ} (block : ℕ) → Steps a b a b' → block_place block ≡ Second n → SameCells b b' ⊎ ErasedInPart n b b'
-    → SameCells (pair_state a b) (pair_state a b') ⊎ ErasedInPart block (pair_state a b) (pair_state a b')
-in_part_second {a} {b} {b'} {n} block steps at (inl same) = inl (same_cells_pair refl (same_cells_refl a) same)
-in_part_second {a} {b} {b'} {n} block steps at (inr part) = inr (erased_in_part_pair block steps (serves_second ErasedInPart a b a b' at part))
+  cases : (place : Half) → CallAt place (λ old new. SameCells old new ⊎ ErasedInPart (number_at place) old new) a b a' b' → Cases place
+  cases (First n) call = ⊎_elim (λ same. inl (again call (same, call.holds.1))) (λ part. inr (again call (part, call.holds.1))) call.holds.0
+  cases (Second n) call = ⊎_elim (λ same. inl (again call (same, call.holds.1))) (λ part. inr (again call (part, call.holds.1))) call.holds.0
+
+  go : Cases (block_place block) → SameCells (pair_state a b) (pair_state a' b') ⊎ ErasedInPart block (pair_state a b) (pair_state a' b')
+  go (inl same) = inl (same_cells_pair (block_place block) same)
+  go (inr part) = inr (record {
+    below = λ page here. block_pages (λ old new. IsAbove old new) block page (weaker (block_place block) part (λ old new part. part.below)) here;
+    count = block_count block (weaker (block_place block) part (λ old new part. part.count));
+  })
+
+-- a page or block that the pair has is one that its die has
+module _ {a b : DieState} {n : ℕ} (halves : Halves a b) where
+  pub first_inside : (page : ℕ) → First n ≡ page_place a.shape.pages page → page < page_count (pair_shape a.shape) → n < page_count a.shape
+  first_inside page at below = rw (← at) at (page_inside a.shape.pages page a.shape.blocks halves.first.some_pages below)
+
+  pub second_inside : (page : ℕ) → Second n ≡ page_place a.shape.pages page → page < page_count (pair_shape a.shape) → n < page_count b.shape
+  second_inside page at below = rw halves.same (rw (← at) at (page_inside a.shape.pages page a.shape.blocks halves.first.some_pages below))
+
+  pub first_block_inside : (block : ℕ) → First n ≡ block_place block → block < (pair_shape a.shape).blocks → n < a.shape.blocks
+  first_block_inside block at below = let back : 2 * n ≡ block = ap block_back at ∙ block_back-place block in omega arith
+
+  pub second_block_inside : (block : ℕ) → Second n ≡ block_place block → block < (pair_shape a.shape).blocks → n < b.shape.blocks
+  second_block_inside block at below = let back : 2 * n + 1 ≡ block = ap block_back at ∙ block_back-place block in rw halves.same (omega arith)
+
+  -- the page of the pair is the page at its place
+  pub first_page : (page : ℕ) → First n ≡ page_place a.shape.pages page → page_of (pair_state a b) page ≡ page_of a n
+  first_page page at = page_of-pair a b halves.same halves.first halves.second page ∙ ap (at_place (page_of a) (page_of b)) (sym at)
+
+  pub second_page : (page : ℕ) → Second n ≡ page_place a.shape.pages page → page_of (pair_state a b) page ≡ page_of b n
+  second_page page at = page_of-pair a b halves.same halves.first halves.second page ∙ ap (at_place (page_of a) (page_of b)) (sym at)

@@ -20,7 +20,8 @@ blank_zeros (suc n) = blank_zeros n
 pub returns-then-not-is_blank-clause-blank_not : goal.returns-then-not-is_blank-clause-blank_not
 returns-then-not-is_blank-clause-blank_not g c = λ e blank.
     let row : c.read.new.into ≡ page_of (g.D.WornDie.state c.args.die.now) c.loop-page.page = c.in_ok-read.ensures.read ∙ page_same c.loop-page.page (inside_read c.loop-page.invariant.reads) in
-    let in_block : c.loop-page.page / (g.D.WornDie.state c.args.die.now).shape.pages ≡ c.args.block = block_of_page c.args.block (g.D.WornDie.state c.args.die.now).shape.pages c.loop-page.page (rw c.shape-pages.ensures at c.loop-page.auto.page) (rw c.shape-pages.ensures at c.loop-page-test.true) in
+    let in_block : c.loop-page.page / (g.D.WornDie.state c.args.die.now).shape.pages ≡ c.args.block = block_of_page c.args.block (g.D.WornDie.state c.args.die.now).shape.pages c.loop-page.page
+    (rw c.shape-pages.ensures at c.loop-page.auto.page) (rw c.shape-pages.ensures at c.loop-page-test.true) in
     let is : c.read.new.into ≡ blank_page (page_bytes (g.D.WornDie.state c.args.die.now).shape) = row ∙ blank c.loop-page.page in_block in
     false≢true (sym c.if-not-is_blank.true ∙ (c.is_blank.ensures ∙ (ap is_blank is ∙ blank_zeros (page_bytes (g.D.WornDie.state c.args.die.now).shape))))
 

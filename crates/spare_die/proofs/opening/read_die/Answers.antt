@@ -18,7 +18,8 @@ read_reserve-requires-clause-book g c = book_told (told_whole c.read_table.ensur
 pub returns-in_err-read_reserve-clause-cause : goal.returns-in_err-read_reserve-clause-cause
 returns-in_err-read_reserve-clause-cause g c =
     let exit = err_from_is_err_and c.from_residual-in_err-read_reserve.result c.from_residual-in_err-read_reserve.ensures.1 in
-    rw (exit.1, exit.2) (cause_after (g.D.WornDie.state c.args.die.now) (g.D.WornDie.state c.read_table.new.die) (g.D.WornDie.state c.read_reserve.new.die) c.args.logical c.in_err-read_reserve.field-0.0
+    rw (exit.1, exit.2)
+    (cause_after (g.D.WornDie.state c.args.die.now) (g.D.WornDie.state c.read_table.new.die) (g.D.WornDie.state c.read_reserve.new.die) c.args.logical c.in_err-read_reserve.field-0.0
     c.read_table.ensures.only_reads c.in_err-read_reserve.ensures.cause)
 
 pub returns-clause-sound : goal.returns-clause-sound
@@ -32,12 +33,8 @@ returns-clause-orderly g c =
     = subst (λ (shape : Shape). FitsShape shape c.args.logical) c.shape-shape.ensures (c.fits_shape.ensures.fits c.if-not-fits_shape.false) in
     let fits' : FitsShape (g.D.WornDie.state c.read_table.new.die).shape c.args.logical = subst (λ (shape : Shape). FitsShape shape c.args.logical) (sym c.read_table.ensures.only_reads.shape) fits in
     orderly_opened (g.met.D.WornDie.shaped c.read_table.new.die) c.read_reserve.ensures.only_reads
-    (orderly_told (g.D.WornDie.bad_erases c.read_reserve.new.die) (told_whole c.read_table.ensures.only_reads c.in_ok-read_table.ensures.told) c.in_ok-read_reserve.ensures.spares fits' c.first_tally-tally.ensures.fresh (search rules)) refl
+    (orderly_told (g.D.WornDie.bad_erases c.read_reserve.new.die)
+    (told_whole c.read_table.ensures.only_reads c.in_ok-read_table.ensures.told) c.in_ok-read_reserve.ensures.spares fits' c.first_tally-tally.ensures.fresh (search rules)) refl
 
 pub returns-clause-starts : goal.returns-clause-starts
-returns-clause-starts g c =
-    let fits : FitsShape (g.D.WornDie.state c.args.die.now).shape c.args.logical
-    = subst (λ (shape : Shape). FitsShape shape c.args.logical) c.shape-shape.ensures (c.fits_shape.ensures.fits c.if-not-fits_shape.false) in
-    let fits' : FitsShape (g.D.WornDie.state c.read_table.new.die).shape c.args.logical = subst (λ (shape : Shape). FitsShape shape c.args.logical) (sym c.read_table.ensures.only_reads.shape) fits in
-    starts (orderly_opened (g.met.D.WornDie.shaped c.read_table.new.die) c.read_reserve.ensures.only_reads
-    (orderly_told (g.D.WornDie.bad_erases c.read_reserve.new.die) (told_whole c.read_table.ensures.only_reads c.in_ok-read_table.ensures.told) c.in_ok-read_reserve.ensures.spares fits' c.first_tally-tally.ensures.fresh (search rules)) refl) c.first_tally-tally.ensures.fresh (search rules)
+returns-clause-starts g c = starts (returns-clause-orderly g c) c.first_tally-tally.ensures.fresh (search rules)

@@ -7,7 +7,9 @@ use Rattle.spare_die.proofs.opening.read_entry.Goals as goal
 
 pub returns-in-Ok-clause-told : goal.returns-in-Ok-clause-told
 returns-in-Ok-clause-told g c =
-    on_ok_weaker c.note.result (λ notes. told_more c.requires.told c.requires.inside (subst (λ (row : List ℕ). NotesPage c.args.logical c.args.page row c.args.opening.now c.note.new.self) c.in-Ok.ensures.read notes)) c.note.ensures.noted
+    on_ok_weaker c.note.result
+    (λ notes. told_more c.requires.told c.requires.inside
+    (subst (λ (row : List ℕ). NotesPage c.args.logical c.args.page row c.args.opening.now c.note.new.self) c.in-Ok.ensures.read notes)) c.note.ensures.noted
 
 pub returns-in-Ok-clause-cause : goal.returns-in-Ok-clause-cause
 returns-in-Ok-clause-cause g c =

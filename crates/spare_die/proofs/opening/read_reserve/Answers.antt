@@ -21,4 +21,6 @@ read_spare-requires-clause-free g c =
 pub returns-in_err-read_spare-clause-cause : goal.returns-in_err-read_spare-clause-cause
 returns-in_err-read_spare-clause-cause g c =
     let exit = err_from_is_err_and c.from_residual.result c.from_residual.ensures.1 in
-    rw (exit.1, exit.2) (cause_after (g.D.WornDie.state c.args.die.now) (g.D.WornDie.state c.loop-block.die) (g.D.WornDie.state c.read_spare.new.die) c.args.logical c.in_err-read_spare.field-0.0 c.loop-block.invariant.reads c.in_err-read_spare.ensures.cause)
+    rw (exit.1, exit.2)
+    (cause_after (g.D.WornDie.state c.args.die.now) (g.D.WornDie.state c.loop-block.die)
+    (g.D.WornDie.state c.read_spare.new.die) c.args.logical c.in_err-read_spare.field-0.0 c.loop-block.invariant.reads c.in_err-read_spare.ensures.cause)

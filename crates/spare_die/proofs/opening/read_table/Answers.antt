@@ -10,7 +10,9 @@ read_entry-requires-clause-told g c = told_read (inside_read c.loop-page.invaria
 pub returns-in_err-read_entry-clause-cause : goal.returns-in_err-read_entry-clause-cause
 returns-in_err-read_entry-clause-cause g c =
     let exit = err_from_is_err_and c.from_residual.result c.from_residual.ensures.1 in
-    rw (exit.1, exit.2) (cause_after (g.D.WornDie.state c.args.die.now) (g.D.WornDie.state c.loop-page.die) (g.D.WornDie.state c.read_entry.new.die) c.args.logical c.in_err-read_entry.field-0.0 c.loop-page.invariant.reads c.in_err-read_entry.ensures.cause)
+    rw (exit.1, exit.2)
+    (cause_after (g.D.WornDie.state c.args.die.now) (g.D.WornDie.state c.loop-page.die)
+    (g.D.WornDie.state c.read_entry.new.die) c.args.logical c.in_err-read_entry.field-0.0 c.loop-page.invariant.reads c.in_err-read_entry.ensures.cause)
 
 pub loop-page-preserved : goal.loop-page-preserved
 loop-page-preserved g c = record {

@@ -28,14 +28,17 @@ program-requires-clause-above g c =
 
 pub returns-in_err-program-clause-put_or_not : goal.returns-in_err-program-clause-put_or_not
 returns-in_err-program-clause-put_or_not g c =
-    on_err c.from_residual.result (inl (between_ungated (page_of (g.D.WornDie.state c.args.die.now) c.args.at) (page_of (g.D.WornDie.state c.program.new.self) c.args.at) c.spell.new.into c.in_err-program.ensures.in_part
+    on_err c.from_residual.result
+    (inl (between_ungated (page_of (g.D.WornDie.state c.args.die.now) c.args.at) (page_of (g.D.WornDie.state c.program.new.self) c.args.at) c.spell.new.into c.in_err-program.ensures.in_part
     (row_ungated c.spell.new.into c.args.entry.logical c.args.entry.inner _ c.spell.ensures)))
 
 pub returns-clause-put : goal.returns-clause-put
 returns-clause-put g c =
-    on_ok_weaker c.charge.result (λ charged. entry_is (page_of (g.D.WornDie.state c.charge.new.self) c.args.at) c.args.entry.logical c.args.entry.inner (page_bytes (g.D.WornDie.state c.args.die.now).shape) c.requires.room
+    on_ok_weaker c.charge.result
+    (λ charged. entry_is (page_of (g.D.WornDie.state c.charge.new.self) c.args.at) c.args.entry.logical c.args.entry.inner (page_bytes (g.D.WornDie.state c.args.die.now).shape) c.requires.room
     (omega (arith, c.requires.logical)) (omega (arith, c.requires.inner))
-    (charged ∙ ap (λ row. charge row 64) (c.in_ok-program.ensures.programmed ∙ (c.spell.ensures ∙ ap (entry_page c.args.entry.logical c.args.entry.inner) c.requires.whole_page)))) c.charge.ensures.charged
+    (charged ∙ ap (λ row. charge row 64)
+    (c.in_ok-program.ensures.programmed ∙ (c.spell.ensures ∙ ap (entry_page c.args.entry.logical c.args.entry.inner) c.requires.whole_page)))) c.charge.ensures.charged
 
 pub returns-clause-put_or_not : goal.returns-clause-put_or_not
 returns-clause-put_or_not g c =

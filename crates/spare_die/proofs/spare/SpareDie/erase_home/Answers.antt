@@ -1,87 +1,32 @@
 -- The home is erased, and the table stays.
-use Rattle.std.proofs.Common.{ap, sym, ◌∙◌, Ok}
+use Rattle.std.proofs.Common.{ap, sym, subst, ◌∙◌}
 use Rattle.cell_die.specs.DieState.{page_bytes}
+use Rattle.spare_die.specs.declared.tally.Tally.{Tally}
+use Rattle.spare_die.specs.Book.{IsOrderly}
 use Rattle.spare_die.proofs.Facts.{keeps_facts}
-use Rattle.spare_die.proofs.Erasing.{HomeCall, erases_clean, erases_any, orderly_clean, orderly_bad, bad_counted, orderly_erase_failed}
+use Rattle.spare_die.proofs.Erasing.{HomeErase, home_of, erases_home, orderly_answered, bad_counted}
 use Rattle.spare_die.proofs.spare.SpareDie.erase_home.Goals as goal
 
 pub invariant_of-self : goal.invariant_of-self
 invariant_of-self g c =
     let self = c.args.self.now in
-    let call : HomeCall (g.D.WornDie.state self.inner) (g.D.WornDie.state c.erase_or_bad.new.self) self.logical c.args.block c.home-home.result = record {
-      shaped = g.met.D.WornDie.shaped self.inner;
-      homes = self.orderly.homes;
-      kept = c.erase_or_bad.ensures.kept;
-      inside = c.requires.inside;
-      at_is = c.home-home.ensures;
-      only = c.erase_or_bad.ensures.only_block;
-    } in
-    let orderly = orderly_clean self.orderly call c.count_erase.ensures.same c.in-Ok-Clean.ensures.passed.change_faults (c.erase_or_bad.ensures.clean_bad (c.in-Ok-Clean.is ∙ ap Ok c.in-Ok-Clean.field-0-is)) in
-    record { orderly = orderly; keeps = keeps_facts orderly; whole_page = self.whole_page ∙ ap page_bytes (sym c.erase_or_bad.ensures.kept.shape) }
+    let of = home_of (g.met.D.WornDie.shaped self.inner) self.orderly.homes c.requires.inside c.home-home.ensures in
+    let e = c.erase_or_bad-result.ensures in
+    let call : HomeErase c.erase_or_bad-result.result (g.D.WornDie.state self.inner) (g.D.WornDie.state c.erase_or_bad-result.new.self) (g.D.WornDie.bad_erases self.inner)
+    (g.D.WornDie.bad_erases c.erase_or_bad-result.new.self) c.home-home.result
+    = record { shape = e.kept.shape; only = e.only_block; passed = e.passed; failed = e.failed; clean = e.clean_bad; bad = e.bad_rose; none = e.failed_bad } in
+    let orderly = orderly_answered c.erase_or_bad-result.result self.orderly c.requires.running of c.count_erase.ensures.same call in
+    let known = subst (λ (tally : Tally). IsOrderly (g.D.WornDie.state c.erase_or_bad-result.new.self) (g.D.WornDie.bad_erases c.erase_or_bad-result.new.self) self.logical self.book tally)
+    (sym c.count_answer.ensures) orderly in
+    record { orderly = known; keeps = keeps_facts known; whole_page = self.whole_page ∙ ap page_bytes (sym e.kept.shape) }
 
-pub invariant_of-self-in-Ok-Bad : goal.invariant_of-self-in-Ok-Bad
-invariant_of-self-in-Ok-Bad g c =
+pub returns-clause-erases : goal.returns-clause-erases
+returns-clause-erases g c =
     let self = c.args.self.now in
-    let call : HomeCall (g.D.WornDie.state self.inner) (g.D.WornDie.state c.erase_or_bad.new.self) self.logical c.args.block c.home-home.result = record {
-      shaped = g.met.D.WornDie.shaped self.inner;
-      homes = self.orderly.homes;
-      kept = c.erase_or_bad.ensures.kept;
-      inside = c.requires.inside;
-      at_is = c.home-home.ensures;
-      only = c.erase_or_bad.ensures.only_block;
-    } in
-    let orderly = orderly_bad self.orderly call c.requires.running c.count_erase.ensures.same c.in-Ok-Bad.ensures.passed.change_faults (c.erase_or_bad.ensures.bad_rose (c.in-Ok-Bad.is ∙ ap Ok c.in-Ok-Bad.field-0-is)) c.saturating_add-self.result c.saturating_add-self.ensures in
-    record { orderly = orderly; keeps = keeps_facts orderly; whole_page = self.whole_page ∙ ap page_bytes (sym c.erase_or_bad.ensures.kept.shape) }
+    let of = home_of (g.met.D.WornDie.shaped self.inner) self.orderly.homes c.requires.inside c.home-home.ensures in
+    let e = c.erase_or_bad-result.ensures in
+    erases_home of e.kept.shape e.only_block c.erase_or_bad-result.result e.clean e.bad e.in_part
 
-pub invariant_of-self-in-Err : goal.invariant_of-self-in-Err
-invariant_of-self-in-Err g c =
-    let self = c.args.self.now in
-    let call : HomeCall (g.D.WornDie.state self.inner) (g.D.WornDie.state c.erase_or_bad.new.self) self.logical c.args.block c.home-home.result = record {
-      shaped = g.met.D.WornDie.shaped self.inner;
-      homes = self.orderly.homes;
-      kept = c.erase_or_bad.ensures.kept;
-      inside = c.requires.inside;
-      at_is = c.home-home.ensures;
-      only = c.erase_or_bad.ensures.only_block;
-    } in
-    let orderly = orderly_erase_failed self.orderly call c.count_erase.ensures.same c.in-Err.ensures.failed c.in-Err.ensures.failed_bad in
-    record { orderly = orderly; keeps = keeps_facts orderly; whole_page = self.whole_page ∙ ap page_bytes (sym c.erase_or_bad.ensures.kept.shape) }
-
-pub returns-in-Ok-Clean-clause-erases : goal.returns-in-Ok-Clean-clause-erases
-returns-in-Ok-Clean-clause-erases g c =
-    let self = c.args.self.now in
-    let call : HomeCall (g.D.WornDie.state self.inner) (g.D.WornDie.state c.erase_or_bad.new.self) self.logical c.args.block c.home-home.result = record {
-      shaped = g.met.D.WornDie.shaped self.inner;
-      homes = self.orderly.homes;
-      kept = c.erase_or_bad.ensures.kept;
-      inside = c.requires.inside;
-      at_is = c.home-home.ensures;
-      only = c.erase_or_bad.ensures.only_block;
-    } in
-    erases_clean call (c.erase_or_bad.ensures.clean (c.in-Ok-Clean.is ∙ ap Ok c.in-Ok-Clean.field-0-is))
-
-pub returns-in-Ok-Bad-clause-bad_more : goal.returns-in-Ok-Bad-clause-bad_more
-returns-in-Ok-Bad-clause-bad_more g c =
-    let self = c.args.self.now in
-    let call : HomeCall (g.D.WornDie.state self.inner) (g.D.WornDie.state c.erase_or_bad.new.self) self.logical c.args.block c.home-home.result = record {
-      shaped = g.met.D.WornDie.shaped self.inner;
-      homes = self.orderly.homes;
-      kept = c.erase_or_bad.ensures.kept;
-      inside = c.requires.inside;
-      at_is = c.home-home.ensures;
-      only = c.erase_or_bad.ensures.only_block;
-    } in
-    λ e. rw c.saturating_add-self.ensures (bad_counted self.orderly c.requires.running c.count_erase.ensures.same)
-
-pub returns-in-Err-clause-erases : goal.returns-in-Err-clause-erases
-returns-in-Err-clause-erases g c =
-    let self = c.args.self.now in
-    let call : HomeCall (g.D.WornDie.state self.inner) (g.D.WornDie.state c.erase_or_bad.new.self) self.logical c.args.block c.home-home.result = record {
-      shaped = g.met.D.WornDie.shaped self.inner;
-      homes = self.orderly.homes;
-      kept = c.erase_or_bad.ensures.kept;
-      inside = c.requires.inside;
-      at_is = c.home-home.ensures;
-      only = c.erase_or_bad.ensures.only_block;
-    } in
-    erases_any call c.in-Err.ensures.in_part
+pub returns-clause-bad_more : goal.returns-clause-bad_more
+returns-clause-bad_more g c =
+    λ bad. rw (c.count_answer.ensures, bad) (bad_counted c.args.self.now.orderly c.requires.running c.count_erase.ensures.same)

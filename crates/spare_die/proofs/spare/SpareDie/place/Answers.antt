@@ -23,12 +23,14 @@ home-requires g c =
 pub overflow_mul-result : goal.overflow_mul-result
 overflow_mul-result g c =
     let self = c.args.self.now in
-    rw (c.home.ensures, c.shape-pages.ensures) (omega (arith, sums_fit (g.D.WornDie.state self.inner) self.logical c.args.page (g.met.D.WornDie.shaped self.inner) self.orderly.homes c.requires.inside))
+    rw (c.home.ensures, c.shape-pages.ensures)
+    (omega (arith, sums_fit (g.D.WornDie.state self.inner) self.logical c.args.page (g.met.D.WornDie.shaped self.inner) self.orderly.homes c.requires.inside))
 
 pub overflow_add-result : goal.overflow_add-result
 overflow_add-result g c =
     let self = c.args.self.now in
-    rw (c.home.ensures, c.shape-pages.ensures) (omega (arith, sums_fit (g.D.WornDie.state self.inner) self.logical c.args.page (g.met.D.WornDie.shaped self.inner) self.orderly.homes c.requires.inside))
+    rw (c.home.ensures, c.shape-pages.ensures)
+    (omega (arith, sums_fit (g.D.WornDie.state self.inner) self.logical c.args.page (g.met.D.WornDie.shaped self.inner) self.orderly.homes c.requires.inside))
 
 pub returns : goal.returns
 returns g c = rw (c.home.ensures, c.shape-pages.ensures)

@@ -1,123 +1,46 @@
 -- The page is programmed at its place.
-use Rattle.std.proofs.Common.{ap, sym, ◌∙◌, refl}
+use Rattle.std.proofs.Common.{inr, ap, sym, ◌∙◌}
+use Rattle.std.proofs.lemmas.Result.{on_err_weaker}
 use Rattle.cell_die.specs.DieState.{page_bytes}
 use Rattle.spare_die.specs.Tallies.{own_of}
 use Rattle.spare_die.proofs.Facts.{keeps_facts}
-use Rattle.spare_die.proofs.Pages.{PageCall, page_free, page_then, page_now, only_page_call, kept_call, place_in_die, orderly_passed, orderly_failed, later_same, page_read}
+use Rattle.spare_die.proofs.Pages.{Program, program_rises, place_of, in_die, page_then, page_change, orderly_called}
 use Rattle.spare_die.proofs.spare.SpareDieDie.program.Goals as goal
 
-pub program-requires-clause-page : goal.program-requires-clause-page
-program-requires-clause-page g c =
+pub program-result-requires : goal.program-result-requires
+program-result-requires g c =
     let self = c.args.self.now in
-    place_in_die (g.D.WornDie.state self.inner) self.logical c.args.page c.place-place.result (g.met.D.WornDie.shaped self.inner) self.orderly.homes c.requires.page c.place-place.ensures
+    let at = place_of (g.met.D.WornDie.shaped self.inner) self.orderly.homes c.requires.page c.place-place.ensures in
+    record { page = in_die at; above = rw (← (page_then (own_of self.tally) at)) c.requires.above }
 
-pub program-requires-clause-above : goal.program-requires-clause-above
-program-requires-clause-above g c =
+pub invariant_of-self-2 : goal.invariant_of-self-2
+invariant_of-self-2 g c =
     let self = c.args.self.now in
-    rw (page_read (g.D.WornDie.state self.inner) self.logical c.args.page c.place-place.result (own_of self.tally) c.requires.page c.place-place.ensures) c.requires.above
+    let at = place_of (g.met.D.WornDie.shaped self.inner) self.orderly.homes c.requires.page c.place-place.ensures in
+    let e = c.program-result.ensures in
+    let call : Program c.args.target.now c.place-place.result c.program-result.result (g.D.WornDie.state self.inner) (g.D.WornDie.state c.program-result.new.self)
+    = record { did = e.programmed; part = e.in_part; only = e.only_page; kept = e.kept; passed = e.passed; failed = e.failed } in
+    let orderly = orderly_called c.program-result.result c.is_err-self.ensures.value self.orderly c.if-self.false at call e.same_bad in
+    record { orderly = orderly; keeps = keeps_facts orderly; whole_page = self.whole_page ∙ ap page_bytes (sym e.kept.shape) }
 
-pub invariant_of-self-in-Err : goal.invariant_of-self-in-Err
-invariant_of-self-in-Err g c =
+pub returns : goal.returns
+returns g c =
     let self = c.args.self.now in
-    let call : PageCall (g.D.WornDie.state self.inner) (g.D.WornDie.state c.program.new.self) self.logical c.args.page c.place-place.result = record {
-      shaped = g.met.D.WornDie.shaped self.inner;
-      homes = self.orderly.homes;
-      kept = c.program.ensures.kept;
-      below = c.requires.page;
-      place_is = c.place-place.ensures;
-      only = c.program.ensures.only_page;
-    } in
-    let orderly = orderly_failed self.orderly call c.in-Err.ensures.failed c.program.ensures.same_bad in
-    record { orderly = orderly; keeps = keeps_facts orderly; whole_page = self.whole_page ∙ ap page_bytes (sym c.program.ensures.kept.shape) }
-
-pub returns-in-Err-clause-in_part : goal.returns-in-Err-clause-in_part
-returns-in-Err-clause-in_part g c =
-    let self = c.args.self.now in
-    let call : PageCall (g.D.WornDie.state self.inner) (g.D.WornDie.state c.program.new.self) self.logical c.args.page c.place-place.result = record {
-      shaped = g.met.D.WornDie.shaped self.inner;
-      homes = self.orderly.homes;
-      kept = c.program.ensures.kept;
-      below = c.requires.page;
-      place_is = c.place-place.ensures;
-      only = c.program.ensures.only_page;
-    } in
-    rw (page_then (own_of self.tally) call, page_now (own_of self.tally) call) c.in-Err.ensures.in_part
-
-pub returns-in-Err-clause-only_page : goal.returns-in-Err-clause-only_page
-returns-in-Err-clause-only_page g c =
-    let self = c.args.self.now in
-    let call : PageCall (g.D.WornDie.state self.inner) (g.D.WornDie.state c.program.new.self) self.logical c.args.page c.place-place.result = record {
-      shaped = g.met.D.WornDie.shaped self.inner;
-      homes = self.orderly.homes;
-      kept = c.program.ensures.kept;
-      below = c.requires.page;
-      place_is = c.place-place.ensures;
-      only = c.program.ensures.only_page;
-    } in
-    only_page_call (own_of self.tally) (own_of self.tally) call refl
-
-pub returns-in-Err-clause-kept : goal.returns-in-Err-clause-kept
-returns-in-Err-clause-kept g c =
-    let self = c.args.self.now in
-    let call : PageCall (g.D.WornDie.state self.inner) (g.D.WornDie.state c.program.new.self) self.logical c.args.page c.place-place.result = record {
-      shaped = g.met.D.WornDie.shaped self.inner;
-      homes = self.orderly.homes;
-      kept = c.program.ensures.kept;
-      below = c.requires.page;
-      place_is = c.place-place.ensures;
-      only = c.program.ensures.only_page;
-    } in
-    kept_call (own_of self.tally) (own_of self.tally) call (later_same (own_of self.tally)) refl c.in-Err.ensures.in_part.above
-
-pub invariant_of-self-in_default : goal.invariant_of-self-in_default
-invariant_of-self-in_default g c =
-    let self = c.args.self.now in
-    let call : PageCall (g.D.WornDie.state self.inner) (g.D.WornDie.state c.program.new.self) self.logical c.args.page c.place-place.result = record {
-      shaped = g.met.D.WornDie.shaped self.inner;
-      homes = self.orderly.homes;
-      kept = c.program.ensures.kept;
-      below = c.requires.page;
-      place_is = c.place-place.ensures;
-      only = c.program.ensures.only_page;
-    } in
-    let orderly = orderly_passed self.orderly (page_free call) c.in_default.ensures.passed.change_faults c.program.ensures.same_bad in
-    record { orderly = orderly; keeps = keeps_facts orderly; whole_page = self.whole_page ∙ ap page_bytes (sym c.program.ensures.kept.shape) }
-
-pub returns-clause-programmed : goal.returns-clause-programmed
-returns-clause-programmed g c =
-    let self = c.args.self.now in
-    let call : PageCall (g.D.WornDie.state self.inner) (g.D.WornDie.state c.program.new.self) self.logical c.args.page c.place-place.result = record {
-      shaped = g.met.D.WornDie.shaped self.inner;
-      homes = self.orderly.homes;
-      kept = c.program.ensures.kept;
-      below = c.requires.page;
-      place_is = c.place-place.ensures;
-      only = c.program.ensures.only_page;
-    } in
-    page_now (own_of self.tally) call ∙ c.in_default.ensures.programmed
-
-pub returns-clause-only_page : goal.returns-clause-only_page
-returns-clause-only_page g c =
-    let self = c.args.self.now in
-    let call : PageCall (g.D.WornDie.state self.inner) (g.D.WornDie.state c.program.new.self) self.logical c.args.page c.place-place.result = record {
-      shaped = g.met.D.WornDie.shaped self.inner;
-      homes = self.orderly.homes;
-      kept = c.program.ensures.kept;
-      below = c.requires.page;
-      place_is = c.place-place.ensures;
-      only = c.program.ensures.only_page;
-    } in
-    only_page_call (own_of self.tally) (own_of self.tally) call refl
-
-pub returns-clause-kept : goal.returns-clause-kept
-returns-clause-kept g c =
-    let self = c.args.self.now in
-    let call : PageCall (g.D.WornDie.state self.inner) (g.D.WornDie.state c.program.new.self) self.logical c.args.page c.place-place.result = record {
-      shaped = g.met.D.WornDie.shaped self.inner;
-      homes = self.orderly.homes;
-      kept = c.program.ensures.kept;
-      below = c.requires.page;
-      place_is = c.place-place.ensures;
-      only = c.program.ensures.only_page;
-    } in
-    kept_call (own_of self.tally) (own_of self.tally) call (later_same (own_of self.tally)) refl (rw (c.in_default.ensures.programmed, ← (page_then (own_of self.tally) call)) c.requires.above)
+    let at = place_of (g.met.D.WornDie.shaped self.inner) self.orderly.homes c.requires.page c.place-place.ensures in
+    let e = c.program-result.ensures in
+    let call : Program c.args.target.now c.place-place.result c.program-result.result (g.D.WornDie.state self.inner) (g.D.WornDie.state c.program-result.new.self)
+    = record { did = e.programmed; part = e.in_part; only = e.only_page; kept = e.kept; passed = e.passed; failed = e.failed } in
+    let said = page_change (own_of self.tally) at (program_rises (rw (← (page_then (own_of self.tally) at)) c.requires.above)) call in
+    record {
+      programmed = said.did;
+      in_part = said.part;
+      only_page = said.only;
+      kept = said.kept;
+      passed = said.passed;
+      failed = said.failed;
+      unpowered = tt;
+      refused = λ stopped. absurd (cc);
+      untouched = λ stopped. absurd (cc);
+      cause = on_err_weaker c.program-result.result (λ failed. inr failed) e.failed;
+      stopped = rw c.if-self.false c.is_err-self.ensures.value;
+    }
