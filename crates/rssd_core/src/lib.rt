@@ -4,15 +4,13 @@
 
 mod at_hand;
 mod clean_page;
-mod collecting;
-mod contract;
 pub mod device;
 mod idle;
 pub mod mounting;
 mod over;
 mod placing;
 mod row;
-mod trim;
+mod store;
 pub mod whole;
 pub mod worst;
 
