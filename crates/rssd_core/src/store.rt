@@ -1,6 +1,6 @@
 //! A die with a scheme, and the tables that are kept of it, as one value. Reads, puts, wipes, collections and idle moves are calls
 //! of it.
-ghost use Rattle.std.specs.Prelude.{◌≡◌, ◌≤◌, ◌<◌, ◌^◌, ◌×◌, ◌↔◌, false, true, length, slice_index_or, [], Ok, Err, OnOk, OnErr, IfOk, IsTrue, IfSome};
+ghost use Rattle.std.specs.Prelude.{◌≡◌, ◌≤◌, ◌<◌, ◌^◌, ◌↔◌, false, true, length, slice_index_or, [], Ok, Err, OnOk, OnErr, IfOk, IsTrue, IfSome};
 ghost use Rattle.cell_die.specs.Calls.{Passed, ReadFailed};
 ghost use Rattle.cell_die.specs.Changes.{SameCells};
 ghost use Rattle.cell_die.specs.Counts.{sum_of};

@@ -1,6 +1,6 @@
 //! The whole device: numbered sectors over a store. A call that was made lets blocks whose records are gone offer their units, and
 //! answers to writes are counted.
-ghost use Rattle.std.specs.Prelude.{◌≡◌, ◌<◌, ◌≤◌, ◌↔◌, ◌×◌, true, false, Err, OnOk, OnErr, IsErrOf};
+ghost use Rattle.std.specs.Prelude.{◌≡◌, ◌<◌, ◌≤◌, ◌↔◌, true, false, Err, OnOk, OnErr, IsErrOf};
 ghost use Rattle.cell_die.specs.Counts.{count_sum};
 ghost use Rattle.rssd_core.specs.Held.{Stands};
 ghost use Rattle.rssd_core.specs.Outcomes.{firsts, seconds, declines};
