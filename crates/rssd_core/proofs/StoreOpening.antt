@@ -13,6 +13,7 @@ use Rattle.page_alloc.specs.CleanPage.{IsPageBranch, IsTakeBranch, IsWipeBranch,
 use Rattle.page_codec.specs.declared.fault.PutFault.TheVariants.{Read, Change}
 use Rattle.page_codec.specs.Geometry.{Geometry}
 use Rattle.page_codec.specs.Sizes.{Sizes}
+use Rattle.page_codec.specs.TrueBook.{IsTrue}
 use Rattle.collector.specs.Collections.{Collected, CollectReadFailed, CollectChangeFailed}
 use Rattle.collector.specs.Erases.{erased_in, EraseEnds}
 use Rattle.collector.specs.Store.{Store, geometry_of, store, IsTrueStore, Holds}
@@ -21,6 +22,7 @@ use Rattle.rssd_core.specs.Held.{Held, IsHeld, held}
 use Rattle.rssd_core.specs.Placing.{CameToHand, OpenEnds}
 use Rattle.rssd_core.specs.Steps.{IsSized}
 use Rattle.rssd_core.proofs.CollectedLaws.{opened_collect, collect_unread, collect_failed}
+use Rattle.rssd_core.proofs.IdleRun.{holds_refl}
 use Rattle.rssd_core.proofs.OpenedLaws.{opened_page, opened_take, opened_wipe, wipe_failed, wipe_erases}
 use Rattle.rssd_core.proofs.Served.{shape_is}
 use Rattle.rssd_core.proofs.VictimRoom.{victim_has_room}
@@ -29,6 +31,18 @@ use Rattle.rssd_core.proofs.Wiping.{Erasing, wipe_holds, torn_holds}
 -- a tally that nothing is added to
 pub tally_stays : (moved : ℕ) → moved < 2 ^ 64 → moved ≡ count_sum moved 0
 tally_stays moved small = omega arith
+
+-- true tables have an entry for each sector
+pub true_long : {g : Geometry} {cells : List (List ℕ)} {book : BookValue} {table : List (Option Entry)} {seq : ℕ} → IsTrue g cells book table seq → length table ≡ g.sectors
+true_long {g = g} {cells = cells} t = ap (length {A = Option Entry}) t.entries ∙ live_map_long g cells
+
+-- a change of the book alone
+pub take_holds : {C : Type 0} {meaning : C → Meaning} {die : DieState} {scheme : C} {sizes : Sizes} {table : List (Option Entry)} {book : BookValue} {seq moved room : ℕ} {stopped : Bool}
+    → IsHeld meaning sizes room (held meaning die scheme table book seq moved stopped) → (book' : BookValue)
+    → Holds (geometry_of die.shape (meaning scheme) (length table)) (store die table book seq) (store die table book' seq)
+take_holds {meaning = meaning} {die = die} {scheme = scheme} {table = table} {book = book} {seq = seq} kept book' =
+    let same = holds_refl (geometry_of die.shape (meaning scheme) (length table)) (store die table book seq) in
+    record { kept = same.kept; pads = same.pads; sound = same.sound; seqs = same.seqs; drew = same.drew }
 
 -- the numbers and the tables before the call
 module _ {C : Type 0} {meaning : C → Meaning} {die : DieState} {scheme : C} {sizes : Sizes} {table : List (Option Entry)} {book : BookValue} {seq moved room : ℕ} {stopped : Bool}
@@ -68,11 +82,11 @@ module _ {C : Type 0} {meaning : C → Meaning} {die : DieState} {scheme : C} {s
   take_true branch small books at = (take_parts branch small books at).opened.tables
 
   -- an erase of the victim of a wipe
-  module _ {new : DieState} {block : ℕ} (branch : IsWipeBranch old.cells.book block) where
-    pub wipe_here : IsWipeBranch book block
+  module _ {block : ℕ} (branch : IsWipeBranch old.cells.book block) where
+    wipe_here : IsWipeBranch book block
     wipe_here = subst (λ (x : Held C). IsWipeBranch x.cells.book block) (sym is) branch
 
-    module _ (same : Kept die new) (shaped : IsShaped die) (shaped_new : IsShaped new) (only : OnlyBlock block die new) where
+    module _ {new : DieState} (same : Kept die new) (shaped : IsShaped die) (shaped_new : IsShaped new) (only : OnlyBlock block die new) where
       erasing : Erasing (geometry_of die.shape (meaning scheme) (length table)) die new block
       erasing = wipe_erases (geometry_of die.shape (meaning scheme) (length table)) block (store die table book seq) new kept.stands.sized
           (shape_is die.shape (meaning scheme) (length table) sizes kept.die kept.scheme) same shaped shaped_new only true_before wipe_here
@@ -108,7 +122,7 @@ module _ {C : Type 0} {meaning : C → Meaning} {die : DieState} {scheme : C} {s
           (wipe_failed (geometry_of die.shape (meaning scheme) (length table)) (meaning scheme).decoding block (store die table book seq) new erasing how failed true_before wipe_here, refl)
 
   -- a collection of the victim
-  module _ {victim spare : ℕ} (branch : IsCollectBranch old.cells.book victim spare) where
+  module _ {victim : ℕ} (spare : ℕ) (branch : IsCollectBranch old.cells.book victim spare) where
     pub collect_here : IsCollectBranch book victim spare
     collect_here = subst (λ (x : Held C). IsCollectBranch x.cells.book victim spare) (sym is) branch
 
@@ -116,11 +130,11 @@ module _ {C : Type 0} {meaning : C → Meaning} {die : DieState} {scheme : C} {s
     victim_few = victim_has_room (geometry_of die.shape (meaning scheme) (length table)) die.cells book table seq victim spare true_before collect_here (omega (arith, kept.stands.sized.two_blocks)) kept.stands.spare
 
     module _ {new : DieState} {table' : List (Option Entry)} {book' : BookValue} {seq' : ℕ} where
-      pub collect_opened : {page copies moved' : ℕ} → EraseEnds {A = ℕ} (erased_in (state_at book spare) spare) (Ok copies) die new
+      pub collect_opened : {page moved' : ℕ} (copies : ℕ) → EraseEnds {A = ℕ} (erased_in (state_at book spare) spare) (Ok copies) die new
           → Collected (geometry_of die.shape (meaning scheme) (length table)) (meaning scheme).decoding victim spare (store die table book seq) (store new table' book' seq')
           → page ≡ spare * book.pages + live_at book victim → moved' ≡ count_sum moved (live_at book victim)
           → CameToHand old.geometry (meaning old.scheme).decoding page old.cells (store new table' book' seq') old.moved moved'
-      collect_opened {page = page} {moved' = moved'} erased collected at tally =
+      collect_opened {page = page} {moved' = moved'} copies erased collected at tally =
           subst (λ (x : Held C). CameToHand x.geometry (meaning x.scheme).decoding page x.cells (store new table' book' seq') x.moved moved') is
           (record {
             rise = live_at book victim;

@@ -1,6 +1,7 @@
 -- A put over the offered unit of a store.
 use Rattle.std.specs.Prelude.{slice_set, slice_index}
-use Rattle.std.proofs.Common.{◌≡◌, ℕ, ◌+◌, ◌*◌, ◌^◌, ◌<◌, true, false, Bool, List, length, Option, Some, Result, Ok, Err, refl, sym, ap, ap₂, ◌∙◌, subst}
+use Rattle.std.proofs.Common.{◌≡◌, ℕ, ◌+◌, ◌*◌, ◌^◌, ◌<◌, ◌≤◌, true, false, Bool, List, length, Option, Some, Result, Ok, Err, refl, sym, ap, ap₂, ◌∙◌, subst, arith}
+use Rattle.std.proofs.Math.Nat.{mul-le-mul}
 use Rattle.cell_die.specs.DieState.{DieState, IsShaped}
 use Rattle.cell_die.specs.Calls.{Kept}
 use Rattle.striped.specs.Meaning.{Meaning, Decodes, IsSector}
@@ -22,6 +23,8 @@ use Rattle.collector.proofs.Fresh.{same_holds}
 use Rattle.rssd_core.specs.Held.{Held, IsHeld, held}
 use Rattle.rssd_core.specs.Placing.{header_at}
 use Rattle.rssd_core.specs.Steps.{PutOver, OverDeclined, OverReadFailed, OverChangeFailed, passing}
+use Rattle.rssd_core.proofs.Passing.{offered_state}
+use Rattle.rssd_core.proofs.SecondWrite.{unit_below}
 use Rattle.rssd_core.proofs.OverLaws.{IsOver, over_holds, over_failed, effect_within, effect_room, effect_drops, offer_after, put_over_ends, over_declined}
 
 -- the put of a sector over a unit of these parts, and the die after it
@@ -63,6 +66,15 @@ over_here {unit = unit} {sector = sector} {bytes = bytes} is kept running offer 
 
 module _ {C : Type 0} {meaning : C → Meaning} {die new : DieState} {scheme : C} {sizes : Sizes} {table : List (Option Entry)} {book : BookValue} {seq page sector : ℕ} {unit : ReuseUnit} {bytes : List ℕ}
     (here : OverHere meaning die scheme sizes table book seq unit page sector bytes new) where
+  pub over_page : page < 131072
+  over_page =
+      let o = here.over in
+      let offered = offered_state (geometry_of die.shape (meaning scheme) (length table)) die.cells book table seq unit o.tables o.offer in
+      let below = unit_below (geometry_of die.shape (meaning scheme) (length table)) unit.block unit.number o.sized offered.0 offered.1.more in
+      let blocks : die.shape.blocks ≤ 1024 = omega (arith, o.tables.sizes.blocks, o.tables.kept.few_blocks) in
+      let pages : die.shape.pages ≤ 128 = omega (arith, o.tables.sizes.pages, o.tables.kept.few_pages) in
+      omega (arith, o.page_is, below, o.sized.span, mul-le-mul blocks pages)
+
   -- cells above the unit's carry the sector
   module _ {carry : Carry} (is_so : carry ≡ Carried) (ends : SecondEnds (meaning scheme) (place_of page unit.slot) (header_at sector seq) bytes (Ok carry) die new) where
     ended : SecondEnds (meaning scheme) (place_of page unit.slot) (header_at sector seq) bytes (Ok Carried) die new

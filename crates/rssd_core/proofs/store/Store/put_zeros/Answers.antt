@@ -2,7 +2,7 @@
 use Rattle.std.proofs.Common.{refl, ap, length, ◌∙◌, length-set}
 use Rattle.rssd_core.proofs.StoreLaws.{after_keeps, after_held}
 use Rattle.rssd_core.proofs.StoreAtHand.{page_here, zeros_here, put_holds, put_fails, put_within, put_room, put_drops, put_true, put_stands}
-use Rattle.rssd_core.proofs.at_hand.Store.put_zeros.Goals as goal
+use Rattle.rssd_core.proofs.store.Store.put_zeros.Goals as goal
 
 pub put_zeros-requires-clause-page : goal.put_zeros-requires-clause-page
 put_zeros-requires-clause-page g c = (page_here c.self.view_is c.self.invariant c.requires.running c.requires.page).within

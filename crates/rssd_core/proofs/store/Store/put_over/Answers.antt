@@ -1,8 +1,14 @@
 -- The put is one over the offered unit, and its outcomes follow from the gate.
 use Rattle.std.proofs.Common.{refl, ap, length, ◌∙◌, length-set}
 use Rattle.rssd_core.proofs.StoreLaws.{after_keeps, after_held}
-use Rattle.rssd_core.proofs.StoreOver.{over_here, carried_holds, carried_within, carried_room, carried_drops, carried_offer, carried_true, carried_ends, declined_holds, declined_true, declined_ends, unread_holds, unread_true, unread_ends, failed_holds, failed_ends}
-use Rattle.rssd_core.proofs.over.Store.put_over.Goals as goal
+use Rattle.rssd_core.proofs.StoreOver.{over_here, over_page, carried_holds, carried_within, carried_room, carried_drops, carried_offer, carried_true, carried_ends, declined_holds, declined_true, declined_ends, unread_holds, unread_true, unread_ends, failed_holds, failed_ends}
+use Rattle.rssd_core.proofs.store.Store.put_over.Goals as goal
+
+pub record_effect-requires-clause-page : goal.record_effect-requires-clause-page
+record_effect-requires-clause-page g c =
+    let here = over_here c.self.view_is c.self.invariant c.requires.running c.requires.offer c.requires.small c.requires.sector c.ranges.sector.fits c.requires.bytes (λ k. (c.type_inv.bytes k).fits)
+        c.pages.ensures.value c.span.ensures c.put_second.ensures.kept (g.met.D.Die.shaped c.self.inside.die) (g.met.D.Die.shaped c.put_second.new.die) (g.met.C.Scheme.decodes c.self.inside.scheme) in
+    over_page here
 
 pub record_effect-requires-clause-block : goal.record_effect-requires-clause-block
 record_effect-requires-clause-block g c =
@@ -84,3 +90,10 @@ returns-in-Err-Read-clause-ends g c =
     let here = over_here c.self.view_is c.self.invariant c.requires.running c.requires.offer c.requires.small c.requires.sector c.ranges.sector.fits c.requires.bytes (λ k. (c.type_inv.bytes k).fits)
         c.pages.ensures.value c.span.ensures c.put_second.ensures.kept (g.met.D.Die.shaped c.self.inside.die) (g.met.D.Die.shaped c.put_second.new.die) (g.met.C.Scheme.decodes c.self.inside.scheme) in
     unread_ends here c.in-Err-Read.field-0-is c.in-Err-Read.ensures.ends c.self.view_is
+
+pub invariant_of-self-in-Ok-Declined : goal.invariant_of-self-in-Ok-Declined
+invariant_of-self-in-Ok-Declined g c =
+    let here = over_here c.self.view_is c.self.invariant c.requires.running c.requires.offer c.requires.small c.requires.sector c.ranges.sector.fits c.requires.bytes (λ k. (c.type_inv.bytes k).fits)
+        c.pages.ensures.value c.span.ensures c.put_second.ensures.kept (g.met.D.Die.shaped c.self.inside.die) (g.met.D.Die.shaped c.put_second.new.die) (g.met.C.Scheme.decodes c.self.inside.scheme) in
+    after_held (declined_holds here c.in-Ok-Declined.field-0-is c.in-Ok-Declined.ensures.ends c.pass-in-Ok-Declined.ensures) c.put_second.ensures.same_scheme refl c.self.invariant
+    c.put_second.ensures.same_work refl (λ _. declined_true here c.in-Ok-Declined.field-0-is c.in-Ok-Declined.ensures.ends c.pass-in-Ok-Declined.ensures)

@@ -3,7 +3,7 @@ use Rattle.std.proofs.Common.{◌≡◌, false}
 use Rattle.cell_die.specs.Counts.{count_sum}
 use Rattle.rssd_core.specs.Held.{Keeps}
 use Rattle.rssd_core.specs.Idle.{MovesRun}
-use Rattle.rssd_core.proofs.idle.Store.move_records.Given as goal
+use Rattle.rssd_core.proofs.store.Store.move_records.Given as goal
 
 abbrev pub invariant-loop-count : goal.invariant-loop-count
 invariant-loop-count g l = record {
