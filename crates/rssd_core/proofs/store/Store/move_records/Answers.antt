@@ -1,5 +1,5 @@
 -- Each move goes on from the last one, with the same numbers.
-use Rattle.std.proofs.Common.{◌≡◌, ◌∙◌, Ok, Err, refl, ap, arith}
+use Rattle.std.proofs.Common.{rules, ◌≡◌, ◌∙◌, Ok, Err, refl, ap, arith}
 use Rattle.striped.specs.Meaning.{Meaning}
 use Rattle.cell_die.specs.Counts.{count_sum}
 use Rattle.rssd_core.specs.Idle.{none}
@@ -23,3 +23,26 @@ loop-count-preserved g c =
       tally = omega (arith, c.loop-count.invariant.tally, c.in-Ok-true.ensures.rises (ap Ok c.in-Ok-true.field-0-test));
       running = c.in-Ok-true.ensures.stopped;
     }
+
+pub returns-in-Err-clause-keeps : goal.returns-in-Err-clause-keeps
+returns-in-Err-clause-keeps g c = keeps_trans c.loop-count.invariant.keeps c.move_record.ensures.keeps
+
+pub returns-in-Ok-false-clause-ends : goal.returns-in-Ok-false-clause-ends
+returns-in-Ok-false-clause-ends g c =
+    let first = c.loop-count.invariant.keeps in
+    let old = c.args.self.now in
+    let mid = c.loop-count.self in
+    let new = c.move_record.new.self in
+    none_more old.geometry mid.geometry (g.C.Scheme.meaning old.scheme).decoding (g.C.Scheme.meaning mid.scheme).decoding first.same_numbers (ap (λ (m : Meaning). m.decoding) first.same_scheme)
+    old.cells mid.cells new.cells c.args.n c.loop-count.count (omega arith) c.loop-count.invariant.run (c.in-Ok-false.ensures.none (ap Ok c.in-Ok-false.field-0-test))
+    (c.in-Ok-false.ensures.nothing (ap Ok c.in-Ok-false.field-0-test))
+
+pub returns-in-Err-clause-ends : goal.returns-in-Err-clause-ends
+returns-in-Err-clause-ends g c =
+    let first = c.loop-count.invariant.keeps in
+    let old = c.args.self.now in
+    let mid = c.loop-count.self in
+    let new = c.move_record.new.self in
+    failed_move old.geometry mid.geometry (g.C.Scheme.meaning old.scheme).decoding (g.C.Scheme.meaning mid.scheme).decoding first.same_numbers (ap (λ (m : Meaning). m.decoding) first.same_scheme)
+    old.cells mid.cells new.cells c.args.n c.loop-count.count c.in-Err.fault (omega arith) c.loop-count.invariant.run c.move_record.ensures.keeps.holds
+    (λ none. let told = c.in-Err.ensures.none_alone none in cc) (search rules) (λ e. c.in-Err.ensures.read_failed (ap Err e)) (λ e. c.in-Err.ensures.change_failed (ap Err e))
