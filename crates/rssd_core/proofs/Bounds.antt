@@ -16,10 +16,11 @@ use Rattle.page_codec.specs.Records.{live_record}
 use Rattle.page_codec.specs.Sectors.{says_zeros}
 use Rattle.page_codec.specs.Sound.{stands_in, live_count}
 use Rattle.page_codec.specs.TrueBook.{IsTrue, IsTrueBook, live_map}
+use Rattle.collector.specs.Moves.{get_reads}
 use Rattle.rssd_core.specs.declared.device.Placed.{Placed}
 use Rattle.rssd_core.specs.declared.device.Placed.TheVariants.{First, Second, Declined}
 use Rattle.rssd_core.specs.Rules.{next_page}
-use Rattle.rssd_core.specs.Calls.{erase_calls, calls_before, clean_calls, collection_reads, get_reads, move_reads}
+use Rattle.rssd_core.specs.Calls.{erase_calls, calls_before, clean_calls, collection_reads, move_reads}
 use Rattle.rssd_core.specs.DeviceValue.{Numbers, DeviceView}
 use Rattle.rssd_core.specs.Steps.{IsSized}
 use Rattle.rssd_core.specs.Within.{holds_bytes, record_of, write_calls, write_reads, trim_calls, trim_reads}

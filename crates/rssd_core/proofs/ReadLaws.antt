@@ -15,7 +15,7 @@ use Rattle.page_codec.specs.TrueBook.{IsTrue, entry_of}
 use Rattle.collector.specs.Store.{geometry_of}
 use Rattle.collector.proofs.Rows.{row_of}
 use Rattle.collector.proofs.Room as room
-use Rattle.rssd_core.specs.Calls.{get_reads}
+use Rattle.collector.specs.Moves.{get_reads}
 use Rattle.rssd_core.specs.Steps.{IsSized}
 use Rattle.rssd_core.specs.EntryRow.{entry_row, entry_reads, HasPages}
 use Rattle.rssd_core.proofs.RecordLaws.{entry_is, block_below}

@@ -9,7 +9,7 @@ ghost use Rattle.sector_map.specs.Entry.{entry_at};
 ghost use Rattle.page_codec.specs.Sectors.{stored};
 ghost use Rattle.page_codec.specs.TrueBook.{RecyclingDone};
 ghost use Rattle.reuse_pool.specs.Recycling.{Recycles};
-ghost use Rattle.rssd_core.specs.Calls.{get_reads};
+ghost use Rattle.collector.specs.Moves.{get_reads};
 ghost use Rattle.rssd_core.specs.Clearing.{is_held as held_in};
 ghost use Rattle.page_codec.specs.Records.{live_record};
 ghost use Rattle.rssd_core.specs.Held.{Keeps, Stands, on_die, stops};
