@@ -18,13 +18,10 @@ use Rattle.rssd_core.proofs.OpenedLaws.{geometry_same}
 module _ {C : Type 0} {meaning : C → Meaning} {die new : DieState} {scheme scheme' : C} {table table' : List (Option Entry)} {book book' : BookValue} {seq seq' : ℕ}
     (holds : Holds (geometry_of die.shape (meaning scheme) (length table)) (store die table book seq) (store new table' book' seq'))
     (same : meaning scheme' ≡ meaning scheme) (long : length table' ≡ length table) where
-  numbers : geometry_of new.shape (meaning scheme') (length table') ≡ geometry_of die.shape (meaning scheme) (length table)
-  numbers = geometry_same holds.kept.shape same long
-
   pub after_keeps : {moved moved' : ℕ} {stopped stopped' : Bool} {old : Held C} → held meaning die scheme table book seq moved stopped ≡ old
       → Keeps meaning old (held meaning new scheme' table' book' seq' moved' stopped')
   after_keeps {moved' = moved'} {stopped' = stopped'} is =
-      subst (λ (x : Held C). Keeps meaning x (held meaning new scheme' table' book' seq' moved' stopped')) is (record { holds = holds; same_scheme = same; same_numbers = numbers })
+      subst (λ (x : Held C). Keeps meaning x (held meaning new scheme' table' book' seq' moved' stopped')) is (record { holds = holds; same_scheme = same; same_numbers = geometry_same holds.kept.shape same long })
 
   pub after_held : {moved moved' : ℕ} {stopped stopped' : Bool} {sizes sizes' : Sizes} {room room' : ℕ} → IsHeld meaning sizes room (held meaning die scheme table book seq moved stopped)
       → sizes' ≡ sizes → room' ≡ room → (stopped' ≡ false → IsTrueStore (geometry_of die.shape (meaning scheme) (length table)) (store new table' book' seq'))
@@ -32,11 +29,11 @@ module _ {C : Type 0} {meaning : C → Meaning} {die new : DieState} {scheme sch
   after_held {sizes = sizes} {room = room} kept same_sizes same_room tables = record {
     die = subst (λ (s : Sizes). Serves s new.shape) (sym same_sizes) (subst (Serves sizes) (sym holds.kept.shape) kept.die);
     scheme = subst (λ (s : Sizes). ServesScheme s (meaning scheme')) (sym same_sizes) (subst (ServesScheme sizes) (sym same) kept.scheme);
-    moves = subst (λ (n : ℕ). new.shape.pages ≤ n) (sym same_room) (subst (λ (g : Geometry). g.pages ≤ room) (sym numbers) kept.moves);
+    moves = subst (λ (n : ℕ). new.shape.pages ≤ n) (sym same_room) (subst (λ (g : Geometry). g.pages ≤ room) (sym (geometry_same holds.kept.shape same long)) kept.moves);
     stands = record {
-      sized = subst IsSized (sym numbers) kept.stands.sized;
-      spare = subst (λ (g : Geometry). g.sectors < (g.blocks - 1) * g.pages) (sym numbers) kept.stands.spare;
-      tables = λ runs. subst (λ (g : Geometry). IsTrueStore g (store new table' book' seq')) (sym numbers) (tables runs);
+      sized = subst IsSized (sym (geometry_same holds.kept.shape same long)) kept.stands.sized;
+      spare = subst (λ (g : Geometry). g.sectors < (g.blocks - 1) * g.pages) (sym (geometry_same holds.kept.shape same long)) kept.stands.spare;
+      tables = λ runs. subst (λ (g : Geometry). IsTrueStore g (store new table' book' seq')) (sym (geometry_same holds.kept.shape same long)) (tables runs);
     };
   }
 

@@ -1,5 +1,5 @@
 //! The moves of an idle call: records go to the Active block one by one, until so many have gone or none may go.
-ghost use Rattle.std.specs.Prelude.{◌≡◌, ◌<◌, ◌^◌, true, false, Ok, Err, OnErr};
+ghost use Rattle.std.specs.Prelude.{◌≡◌, ◌<◌, ◌^◌, true, false, Ok, Err};
 ghost use Rattle.cell_die.specs.Counts.{count_sum};
 ghost use Rattle.collector.specs.Moves.{Moved, MoveReadFailed, MoveChangeFailed, NoMoveLeft};
 ghost use Rattle.rssd_core.specs.Held.{Keeps, stops};
@@ -30,10 +30,10 @@ impl<D: Die + Drop, C: Scheme + Drop> Store<D, C> {
         ensures rises { result ≡ Ok true → self.new.moved ≡ count_sum self.old.moved 1 }
         ensures none { result ≡ Ok false → NoMoveLeft self.old.cells.book }
         ensures none_alone { NoMoveLeft self.old.cells.book → result ≡ Ok false }
-        ensures nothing { result ≡ Ok false → self.new ≡ self.old }
+        ensures nothing { result ≡ Ok false → self.new.cells ≡ self.old.cells }
         ensures read_failed { result ≡ Err PutFault.Read → MoveReadFailed self.old.geometry self.old.cells self.new.cells }
         ensures change_failed { result ≡ Err PutFault.Change → MoveChangeFailed self.old.geometry (C.meaning self.old.scheme).decoding self.old.cells self.new.cells }
-        ensures same_moved { OnErr result (self.new.moved ≡ self.old.moved) }
+        ensures same_moved { (result ≡ Ok true → ⊥) → self.new.moved ≡ self.old.moved }
         ensures stopped { self.new.stopped ≡ stops result }
     {
         match move_one(
@@ -61,6 +61,7 @@ impl<D: Die + Drop, C: Scheme + Drop> Store<D, C> {
     /// where the record numbers are spent, and where a call of the die fails.
     pub(crate) fn move_records(&mut self, n: u32) -> Moves
         requires running { self.old.stopped ≡ false }
+        requires few_moved { self.old.moved < 2 ^ 64 }
         ensures keeps { Keeps C.meaning self.old self.new }
         ensures ends { MovesEnd self.old.geometry (C.meaning self.old.scheme).decoding n result.count result.fault self.old.cells self.new.cells }
         ensures tally { self.new.moved ≡ count_sum self.old.moved result.count }
