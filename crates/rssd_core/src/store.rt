@@ -1,6 +1,6 @@
 //! A die with a scheme, and the tables that are kept of it, as one value. Reads, puts, wipes, collections and idle moves are calls
 //! of it.
-ghost use Rattle.std.specs.Prelude.{◌≡◌, ◌≤◌, ◌<◌, ◌^◌, ◌↔◌, false, true, length, slice_index_or, [], Ok, Err, OnOk, OnErr, IfOk, IsTrue, IfSome};
+ghost use Rattle.std.specs.Prelude.{◌≡◌, ◌≢◌, ◌⊎◌, ◌<◌, ◌≤◌, ◌^◌, ◌↔◌, false, true, length, slice_index_or, [], Err, OnOk, OnErr, IsTrue, IfSome};
 ghost use Rattle.cell_die.specs.Calls.{Passed, ReadFailed};
 ghost use Rattle.cell_die.specs.Changes.{SameCells};
 ghost use Rattle.cell_die.specs.Counts.{sum_of};
@@ -12,14 +12,14 @@ ghost use Rattle.reuse_pool.specs.Recycling.{Recycles};
 ghost use Rattle.collector.specs.Moves.{get_reads};
 ghost use Rattle.rssd_core.specs.Clearing.{is_held as held_in};
 ghost use Rattle.page_codec.specs.Records.{live_record};
-ghost use Rattle.rssd_core.specs.Held.{Keeps, Stands, on_die, stops};
+ghost use Rattle.rssd_core.specs.Held.{Keeps, Stands, on_die};
 
 use crate::device::FtlError;
 use crate::row::get_row;
 use block_state::Book;
 use cell_die::{Die, DieFault, PowerDie, Torn};
 use collector::Moves;
-use page_codec::{PutFault, Work};
+use page_codec::Work;
 use reuse_pool::recycle_due;
 use sector_map::{Entry, SectorMap};
 use std::marker::Model;
@@ -58,10 +58,31 @@ impl<D: Die + Drop, C: Scheme + Drop> Model for Store<D, C> {
 }
 
 impl<D: Die + Drop, C: Scheme + Drop> Store<D, C> {
+    /// Whether the store runs, and has the sector.
+    pub(crate) fn check(&self, sector: u32) -> Result<(), FtlError>
+        ensures bad_sector { result ≡ Err FtlError.BadSector ↔ self.now.geometry.sectors ≤ sector }
+        ensures stopped { result ≡ Err FtlError.Stopped ↔ (sector < self.now.geometry.sectors) × (self.now.stopped ≡ true) }
+        ensures never { OnErr result ((result ≢ Err FtlError.DieFault) × (result ≢ Err FtlError.Spent)) }
+        ensures refused { OnErr result ((self.now.geometry.sectors ≤ sector) ⊎ (self.now.stopped ≡ true)) }
+        ensures within { OnOk result (sector < self.now.geometry.sectors) }
+        ensures running { OnOk result (self.now.stopped ≡ false) }
+        ensures stands { Stands self.now }
+        ensures few_moved { self.now.moved < 2 ^ 64 }
+    {
+        // Read, so that it is known to be a number of 64 bits.
+        let _moved = self.moved;
+        if sector >= self.map.sectors() {
+            return Err(FtlError::BadSector);
+        }
+        if self.stopped {
+            return Err(FtlError::Stopped);
+        }
+        Ok(())
+    }
+
     /// How many sectors there are.
     pub(crate) fn sectors(&self) -> u32
-        ensures sectors { result ≡ self.now.geometry.sectors }
-        ensures stands { Stands self.now }
+        ensures { result ≡ self.now.geometry.sectors }
     {
         self.map.sectors()
     }
@@ -77,7 +98,9 @@ impl<D: Die + Drop, C: Scheme + Drop> Store<D, C> {
     pub(crate) fn stopped(&self) -> bool
         ensures stopped { result ≡ self.now.stopped }
         ensures stands { Stands self.now }
+        ensures few_moved { self.now.moved < 2 ^ 64 }
     {
+        let _moved = self.moved;
         self.stopped
     }
 
@@ -124,6 +147,7 @@ impl<D: Die + Drop, C: Scheme + Drop> Store<D, C> {
         requires sector { sector < self.old.geometry.sectors }
         requires into { length into.old ≡ self.old.geometry.sector_bytes }
         ensures keeps { Keeps C.meaning self.old self.new }
+        ensures stands { Stands self.new }
         ensures row { OnOk result (into.new ≡ slice_index_or (stored self.old.geometry (C.meaning self.old.scheme).decoding self.old.cells.die.cells) sector []) }
         ensures same_into { OnErr result (into.new ≡ into.old) }
         ensures same_cells { SameCells self.old.cells.die self.new.cells.die }
@@ -135,43 +159,19 @@ impl<D: Die + Drop, C: Scheme + Drop> Store<D, C> {
         get_row(&mut self.die, &self.scheme, &mut self.work, entry, into)
     }
 
-    /// Lets due blocks offer their units, while fewer than `reuse_max` blocks do.
-    fn recycle_due(&mut self, reuse_max: u32)
-        requires running { self.old.stopped ≡ false }
+    /// What ends a call: where no change call failed, due blocks offer their units, while fewer than `reuse_max` blocks do.
+    pub(crate) fn settle(&mut self, reuse_max: u32)
         ensures keeps { Keeps C.meaning self.old self.new }
-        ensures recycles { Recycles reuse_max self.old.cells.book self.new.cells.book }
-        ensures same { self.new ≡ record self.old { cells = record self.old.cells { book = self.new.cells.book } } }
-        ensures done { RecyclingDone reuse_max self.new.cells.book }
-    {
-        recycle_due(&mut self.book, reuse_max);
-    }
-
-    /// What ends a call: where no change call failed, due blocks offer their units.
-    pub(crate) fn settle<T>(
-        &mut self,
-        reuse_max: u32,
-        ended: Result<T, PutFault>,
-    ) -> Result<T, FtlError>
-        requires { self.old.stopped ≡ stops ended }
-        ensures keeps { Keeps C.meaning self.old self.new }
-        ensures ok { IfOk ended (λ answer. result ≡ Ok answer) }
-        ensures fault { OnErr ended (result ≡ Err FtlError.DieFault) }
+        ensures stands { Stands self.new }
         ensures recycles { self.old.stopped ≡ false → Recycles reuse_max self.old.cells.book self.new.cells.book }
         ensures halted { self.old.stopped ≡ true → self.new ≡ self.old }
         ensures same { self.new ≡ record self.old { cells = record self.old.cells { book = self.new.cells.book } } }
         ensures done { self.new.stopped ≡ false → RecyclingDone reuse_max self.new.cells.book }
     {
-        match ended {
-            Ok(answer) => {
-                self.recycle_due(reuse_max);
-                Ok(answer)
-            }
-            Err(PutFault::Read) => {
-                self.recycle_due(reuse_max);
-                Err(FtlError::DieFault)
-            }
-            Err(PutFault::Change) => Err(FtlError::DieFault),
+        if self.stopped {
+            return;
         }
+        recycle_due(&mut self.book, reuse_max);
     }
 }
 

@@ -1,8 +1,7 @@
 //! The whole device: numbered sectors over a store. A call that was made lets blocks whose records are gone offer their units, and
 //! answers to writes are counted.
-ghost use Rattle.std.specs.Prelude.{◌≡◌, ◌<◌, ◌≤◌, ◌↔◌, true, false, Err, OnOk, OnErr, IsErrOf};
+ghost use Rattle.std.specs.Prelude.{◌≡◌};
 ghost use Rattle.cell_die.specs.Counts.{count_sum};
-ghost use Rattle.rssd_core.specs.Held.{Stands};
 ghost use Rattle.rssd_core.specs.Outcomes.{firsts, seconds, declines};
 
 use crate::device::{Counts, Device, FtlError, Placed, Plan, PowerDevice, Refused};
@@ -29,16 +28,25 @@ impl Tallies {
         declined: 0,
     };
 
-    /// Counts a write that was placed so.
-    fn count(&mut self, placed: Placed)
-        ensures first { self.new.first ≡ count_sum self.old.first (firsts placed) }
-        ensures second { self.new.second ≡ count_sum self.old.second (seconds placed) }
-        ensures declined { self.new.declined ≡ count_sum self.old.declined (declines placed) }
+    /// With one write more, which was placed so.
+    fn counted(self, placed: Placed) -> Tallies
+        ensures first { result.first ≡ count_sum self.first (firsts placed) }
+        ensures second { result.second ≡ count_sum self.second (seconds placed) }
+        ensures declined { result.declined ≡ count_sum self.declined (declines placed) }
     {
         match placed {
-            Placed::First => self.first = self.first.saturating_add(1),
-            Placed::Second => self.second = self.second.saturating_add(1),
-            Placed::Declined => self.declined = self.declined.saturating_add(1),
+            Placed::First => Tallies {
+                first: self.first.saturating_add(1),
+                ..self
+            },
+            Placed::Second => Tallies {
+                second: self.second.saturating_add(1),
+                ..self
+            },
+            Placed::Declined => Tallies {
+                declined: self.declined.saturating_add(1),
+                ..self
+            },
         }
     }
 }
@@ -61,26 +69,6 @@ impl<D: Die + Drop, C: Scheme + Drop> Model for Ftl<D, C> {
     ghost invariant = { λ f. IsSettled (record { store = f.store; reuse_max = f.reuse_max; tallies = f.tallies }) };
 }
 
-impl<D: Die + Drop, C: Scheme + Drop> Ftl<D, C> {
-    /// Whether the device runs, and has the sector.
-    fn check(&self, sector: u32) -> Result<(), FtlError>
-        ensures bad_sector { result ≡ Err FtlError.BadSector ↔ self.now.store.geometry.sectors ≤ sector }
-        ensures stopped { result ≡ Err FtlError.Stopped ↔ (sector < self.now.store.geometry.sectors) × (self.now.store.stopped ≡ true) }
-        ensures no_more { OnErr result ((result ≡ Err FtlError.DieFault → ⊥) × (result ≡ Err FtlError.Spent → ⊥)) }
-        ensures within { OnOk result (sector < self.now.store.geometry.sectors) }
-        ensures running { OnOk result (self.now.store.stopped ≡ false) }
-        ensures stands { Stands self.now.store }
-    {
-        if sector >= self.store.sectors() {
-            return Err(FtlError::BadSector);
-        }
-        if self.store.stopped() {
-            return Err(FtlError::Stopped);
-        }
-        Ok(())
-    }
-}
-
 impl<D: Die + Drop, C: Scheme + Drop> Device<D, C> for Ftl<D, C> {
     ghost use Rattle.rssd_core.specs.Parts.{device_of};
 
@@ -91,18 +79,23 @@ impl<D: Die + Drop, C: Scheme + Drop> Device<D, C> for Ftl<D, C> {
     }
 
     fn write(&mut self, sector: u32, bytes: &[u8]) -> Result<Placed, FtlError> {
-        self.check(sector)?;
+        self.store.check(sector)?;
         if self.store.is_spent() {
             return Err(FtlError::Spent);
         }
         let ended = self.store.place(sector, bytes);
-        let placed = self.store.settle(self.reuse_max, ended)?;
-        self.tallies.count(placed);
-        Ok(placed)
+        self.store.settle(self.reuse_max);
+        match ended {
+            Ok(placed) => {
+                self.tallies = self.tallies.counted(placed);
+                Ok(placed)
+            }
+            Err(_) => Err(FtlError::DieFault),
+        }
     }
 
     fn trim(&mut self, sector: u32) -> Result<(), FtlError> {
-        self.check(sector)?;
+        self.store.check(sector)?;
         if self.store.is_spent() {
             return Err(FtlError::Spent);
         }
@@ -110,7 +103,12 @@ impl<D: Die + Drop, C: Scheme + Drop> Device<D, C> for Ftl<D, C> {
             return Ok(());
         }
         let ended = self.store.clear(sector);
-        self.store.settle(self.reuse_max, ended)
+        self.store.settle(self.reuse_max);
+        match ended {
+            Ok(()) => {}
+            Err(_) => return Err(FtlError::DieFault),
+        }
+        Ok(())
     }
 
     fn idle(&mut self, n: u32) -> Result<u32, FtlError> {
@@ -118,15 +116,16 @@ impl<D: Die + Drop, C: Scheme + Drop> Device<D, C> for Ftl<D, C> {
             return Err(FtlError::Stopped);
         }
         let moves = self.store.move_records(n);
-        let ended = match moves.fault {
-            None => Ok(moves.count),
-            Some(fault) => Err(fault),
-        };
-        self.store.settle(self.reuse_max, ended)
+        self.store.settle(self.reuse_max);
+        match moves.fault {
+            None => {}
+            Some(_) => return Err(FtlError::DieFault),
+        }
+        Ok(moves.count)
     }
 
     fn read(&mut self, sector: u32, into: &mut [u8]) -> Result<(), FtlError> {
-        self.check(sector)?;
+        self.store.check(sector)?;
         match self.store.read(sector, into) {
             Ok(()) => Ok(()),
             Err(DieFault) => Err(FtlError::DieFault),
