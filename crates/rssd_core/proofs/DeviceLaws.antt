@@ -15,7 +15,7 @@ use Rattle.page_codec.specs.Records.{live_record}
 use Rattle.page_codec.specs.TrueBook.{IsTrueBook, RecyclingDone}
 use Rattle.page_codec.specs.declared.fault.PutFault.{PutFault}
 use Rattle.page_codec.specs.declared.fault.PutFault.TheVariants.{Read, Change}
-use Rattle.collector.specs.Store.{Store, IsTrueStore}
+use Rattle.collector.specs.Store.{IsTrueStore}
 use Rattle.rssd_core.specs.declared.device.Placed.{Placed}
 use Rattle.rssd_core.specs.declared.whole.Tallies.{Tallies}
 use Rattle.rssd_core.specs.Clearing.{is_held, ClearEnds}
@@ -42,7 +42,7 @@ numbers_in meaning reuse_max store = record { geometry = store.geometry; meaning
 
 -- the numbers are not spent where the test says so
 pub not_spent : (seq : ℕ) {spent : Bool} → (IsTrue spent ↔ (2 ^ 62 ≤ seq)) → spent ≡ false → seq < 2 ^ 62
-not_spent seq tells not = elim (cases_lt seq (2 ^ 62)) [ | inl below ↦ below | inr high ↦ absurd (false≢true (sym not ∙ tells.1 high)) ]
+not_spent seq tells not = elim (cases_lt seq (2 ^ 62)) [ inl below ↦ below | inr high ↦ absurd (false≢true (sym not ∙ tells.1 high)) ]
 
 -- ---- what every call keeps
 
@@ -139,7 +139,7 @@ module _ {C : Type 0} {meaning : C → Meaning} {before : Parts C} {reuse_max : 
     -- what is so of the stores is so of the devices
     over : (P : DeviceValue → DeviceValue → Type 0)
         → P (device_at (numbers_in meaning reuse_max old) old.cells tallies.first tallies.second tallies.declined old.moved false)
-            (device_at (numbers_in meaning reuse_max old) (with_book mid.cells book) first second declined moved stopped)
+        (device_at (numbers_in meaning reuse_max old) (with_book mid.cells book) first second declined moved stopped)
         → P (device_of meaning before) (device_of meaning (parts_of new reuse_max tallies'))
     over P law = as_device call.run meaning (λ (a : DeviceValue). P a (device_of meaning (parts_of new reuse_max tallies')))
         (subst (P (device_at (numbers_in meaning reuse_max old) old.cells tallies.first tallies.second tallies.declined old.moved false)) device_new law)

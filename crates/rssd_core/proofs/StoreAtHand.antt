@@ -1,6 +1,6 @@
 -- A put on the page at hand of a store, of a sector or of zeros.
 use Rattle.std.specs.Prelude.{slice_set, slice_index}
-use Rattle.std.proofs.Common.{◌≡◌, ℕ, ◌+◌, ◌*◌, ◌^◌, ◌<◌, true, false, Bool, List, drop, length, Option, Some, refl, sym, subst}
+use Rattle.std.proofs.Common.{◌≡◌, ℕ, ◌+◌, ◌*◌, ◌^◌, ◌<◌, true, false, Bool, List, drop, length, Option, Some, sym, subst}
 use Rattle.zero_count.specs.declared.Header.{Header}
 use Rattle.cell_die.specs.DieState.{DieState, IsShaped, page_of}
 use Rattle.cell_die.specs.Calls.{Kept, Passed, ChangeFailed}

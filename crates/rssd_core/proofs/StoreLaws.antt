@@ -7,7 +7,7 @@ use Rattle.block_state.specs.Book.{BookValue}
 use Rattle.page_codec.specs.Geometry.{Geometry}
 use Rattle.page_codec.specs.Sizes.{Sizes, Serves, ServesScheme}
 use Rattle.collector.specs.Store.{geometry_of, store, IsTrueStore, Holds}
-use Rattle.rssd_core.specs.Held.{Held, IsHeld, Keeps, Stands, held}
+use Rattle.rssd_core.specs.Held.{Held, IsHeld, Keeps, held}
 use Rattle.rssd_core.specs.Steps.{IsSized}
 use Rattle.rssd_core.proofs.Chained.{holds_trans}
 use Rattle.rssd_core.proofs.IdleRun.{holds_refl}

@@ -1,12 +1,10 @@
 -- An idle move of a store, by its parts.
-use Rattle.std.proofs.Common.{◌≡◌, ℕ, true, false, Bool, List, length, Option, Result, Ok, Err, refl, sym, ap, ◌∙◌, subst}
+use Rattle.std.proofs.Common.{◌≡◌, ℕ, Bool, List, length, Option, sym, subst}
 use Rattle.cell_die.specs.DieState.{DieState}
 use Rattle.striped.specs.Meaning.{Meaning}
 use Rattle.sector_map.specs.declared.entry.Entry.{Entry}
 use Rattle.block_state.specs.Book.{BookValue}
-use Rattle.page_codec.specs.declared.fault.PutFault.TheVariants.{Read, Change}
-use Rattle.page_codec.specs.Sizes.{Sizes}
-use Rattle.collector.specs.Moves.{Moved, MoveReadFailed, MoveChangeFailed, NoMoveLeft}
+use Rattle.collector.specs.Moves.{Moved, MoveReadFailed, MoveChangeFailed}
 use Rattle.page_codec.specs.Geometry.{Geometry}
 use Rattle.page_codec.specs.TrueBook.{IsTrue}
 use Rattle.collector.specs.Store.{Store, IsTrueStore, geometry_of, store}

@@ -1,6 +1,5 @@
 -- A page of a store comes to hand: the victim is wiped, or collected into the Spare, or a block is at hand or taken.
-use Rattle.std.specs.Prelude.{min}
-use Rattle.std.proofs.Common.{◌≡◌, ◌⊎◌, ℕ, ◌+◌, ◌*◌, ◌-◌, ◌^◌, ◌<◌, ◌≤◌, false, Bool, List, length, Option, Ok, Err, refl, sym, ap, ◌∙◌, subst, arith}
+use Rattle.std.proofs.Common.{◌≡◌, ◌⊎◌, ℕ, ◌+◌, ◌*◌, ◌^◌, ◌<◌, false, Bool, List, length, Option, Ok, Err, refl, sym, ap, ◌∙◌, subst, arith}
 use Rattle.cell_die.specs.Changes.{IsErased, SameCells, OnlyBlock, ErasedInPart}
 use Rattle.cell_die.specs.DieState.{DieState, IsShaped}
 use Rattle.cell_die.specs.Calls.{Kept, Passed, ChangeFailed}
@@ -16,11 +15,10 @@ use Rattle.page_codec.specs.Sizes.{Sizes}
 use Rattle.page_codec.specs.TrueBook.{IsTrue}
 use Rattle.collector.specs.Collections.{Collected, CollectReadFailed, CollectChangeFailed}
 use Rattle.collector.specs.Erases.{erased_in, EraseEnds}
-use Rattle.collector.specs.Store.{Store, geometry_of, store, IsTrueStore, Holds}
+use Rattle.collector.specs.Store.{geometry_of, store, IsTrueStore, Holds}
 use Rattle.collector.proofs.Tables.{live_map_long}
 use Rattle.rssd_core.specs.Held.{Held, IsHeld, held}
 use Rattle.rssd_core.specs.Placing.{CameToHand, OpenEnds}
-use Rattle.rssd_core.specs.Steps.{IsSized}
 use Rattle.rssd_core.proofs.CollectedLaws.{opened_collect, collect_unread, collect_failed}
 use Rattle.rssd_core.proofs.IdleRun.{holds_refl}
 use Rattle.rssd_core.proofs.OpenedLaws.{opened_page, opened_take, opened_wipe, wipe_failed, wipe_erases}
@@ -147,14 +145,18 @@ module _ {C : Type 0} {meaning : C → Meaning} {die : DieState} {scheme : C} {s
           → CollectReadFailed (geometry_of die.shape (meaning scheme) (length table)) (meaning scheme).decoding victim spare (store die table book seq) (store new table' book' seq')
           → OpenEnds old.geometry (meaning old.scheme).decoding (Err Read) old.cells (store new table' book' seq') old.moved moved
       collect_unread_here erased failed =
-          subst (λ (x : Held C). OpenEnds x.geometry (meaning x.scheme).decoding (Err Read) x.cells (store new table' book' seq') x.moved moved) is
-          (collect_unread (geometry_of die.shape (meaning scheme) (length table)) (meaning scheme).decoding victim spare (store die table book seq) (store new table' book' seq')
-          true_before collect_here victim_few erased failed, refl)
+          subst (λ (x : Held C). OpenEnds x.geometry (meaning x.scheme).decoding (Err Read) x.cells (store new table' book' seq') x.moved moved) is (
+            collect_unread (geometry_of die.shape (meaning scheme) (length table)) (meaning scheme).decoding victim spare (store die table book seq) (store new table' book' seq')
+                true_before collect_here victim_few erased failed,
+            refl,
+          )
 
       pub collect_failed_here : EraseEnds {A = ℕ} (erased_in (state_at book spare) spare) (Err Change) die new
           → CollectChangeFailed (geometry_of die.shape (meaning scheme) (length table)) (meaning scheme).decoding victim spare (store die table book seq) (store new table' book' seq')
           → OpenEnds old.geometry (meaning old.scheme).decoding (Err Change) old.cells (store new table' book' seq') old.moved moved
       collect_failed_here erased failed =
-          subst (λ (x : Held C). OpenEnds x.geometry (meaning x.scheme).decoding (Err Change) x.cells (store new table' book' seq') x.moved moved) is
-          (collect_failed (geometry_of die.shape (meaning scheme) (length table)) (meaning scheme).decoding victim spare (store die table book seq) (store new table' book' seq')
-          true_before collect_here victim_few erased failed, refl)
+          subst (λ (x : Held C). OpenEnds x.geometry (meaning x.scheme).decoding (Err Change) x.cells (store new table' book' seq') x.moved moved) is (
+            collect_failed (geometry_of die.shape (meaning scheme) (length table)) (meaning scheme).decoding victim spare (store die table book seq) (store new table' book' seq')
+                true_before collect_here victim_few erased failed,
+            refl,
+          )

@@ -1,6 +1,6 @@
 -- A put over the offered unit of a store.
 use Rattle.std.specs.Prelude.{slice_set, slice_index}
-use Rattle.std.proofs.Common.{◌≡◌, ℕ, ◌+◌, ◌*◌, ◌^◌, ◌<◌, ◌≤◌, true, false, Bool, List, length, Option, Some, Result, Ok, Err, refl, sym, ap, ap₂, ◌∙◌, subst, arith}
+use Rattle.std.proofs.Common.{◌≡◌, ℕ, ◌+◌, ◌*◌, ◌^◌, ◌<◌, ◌≤◌, false, Bool, List, length, Option, Some, Ok, Err, refl, sym, ap, ap₂, ◌∙◌, subst, arith}
 use Rattle.std.proofs.Math.Nat.{mul-le-mul}
 use Rattle.cell_die.specs.DieState.{DieState, IsShaped}
 use Rattle.cell_die.specs.Calls.{Kept}

@@ -28,7 +28,7 @@ use Rattle.rssd_core.specs.Calls.{calls_before, clean_calls, collection_calls, c
 use Rattle.rssd_core.specs.Erases.{erase_due}
 use Rattle.rssd_core.proofs.ErasesLaws.{erased_then}
 use Rattle.rssd_core.specs.Clearing.{is_held, zeros_header, ClearEnds, Cleared}
-use Rattle.rssd_core.specs.DeviceValue.{Numbers, DeviceView}
+use Rattle.rssd_core.specs.DeviceValue.{Numbers}
 use Rattle.rssd_core.specs.Failures.{cut_of}
 use Rattle.rssd_core.specs.Outcomes.{Trimmed, TrimFault}
 use Rattle.rssd_core.specs.Steps.{Opened, OpenReadFailed, OpenChangeFailed, PutNext, PutNextFailed}

@@ -1,9 +1,9 @@
 -- How a device's book changes: uses of its rules, in order.
-use Rattle.std.specs.Prelude.{◌≡◌, ℕ, ◌+◌, ◌-◌, ◌≤◌, Bool, true, false, List, [], ◌∷◌, ◌++◌, ◌==◌, if◌then◌else◌, Option, Some, None}
+use Rattle.std.specs.Prelude.{◌≡◌, ℕ, ◌≤◌, Bool, true, false, List, [], ◌∷◌, ◌++◌, Option, Some, None}
 use Rattle.std.specs.List.{count_by}
-use Rattle.block_state.specs.declared.state.State.TheVariants.{Active, Used, Spare}
+use Rattle.block_state.specs.declared.state.State.TheVariants.{Active, Spare}
 use Rattle.block_state.specs.State.{is_active}
-use Rattle.block_state.specs.Book.{BookValue, state_at, live_at, with_state, with_live}
+use Rattle.block_state.specs.Book.{BookValue, state_at, with_state}
 use Rattle.page_alloc.specs.declared.next_page.NextPage.TheVariants.{Page, Take, Wipe, Collect}
 use Rattle.reuse_pool.specs.declared.unit.ReuseUnit.{ReuseUnit}
 use Rattle.reuse_pool.specs.Offer.{passed}

@@ -1,5 +1,5 @@
 -- How many change calls and reads the rules make.
-use Rattle.std.specs.Prelude.{ℕ, ◌+◌, ◌-◌, ◌*◌, true, List, ◌==◌, if◌then◌else◌, max, sum_by, Option, Some, None}
+use Rattle.std.specs.Prelude.{ℕ, ◌+◌, ◌*◌, true, List, if◌then◌else◌, max, sum_by, Option, Some, None}
 use Rattle.std.specs.List.{range_with_len}
 use Rattle.block_state.specs.declared.state.State.{State}
 use Rattle.block_state.specs.declared.state.State.TheVariants.{Spare}
@@ -8,8 +8,7 @@ use Rattle.page_alloc.specs.declared.next_page.NextPage.{NextPage}
 use Rattle.page_alloc.specs.declared.next_page.NextPage.TheVariants.{Page, Take, Wipe, Collect}
 use Rattle.reuse_pool.specs.declared.unit.ReuseUnit.{ReuseUnit}
 use Rattle.page_codec.specs.Geometry.{Geometry}
-use Rattle.page_codec.specs.Records.{Placed, live_record}
-use Rattle.page_codec.specs.Sectors.{says_zeros}
+use Rattle.page_codec.specs.Records.{live_record}
 use Rattle.page_codec.specs.Sound.{stands_in}
 use Rattle.collector.specs.Moves.{get_reads}
 use Rattle.rssd_core.specs.Rules.{next_page}

@@ -1,5 +1,5 @@
 -- A die with a scheme and the tables that are kept of it, as one value.
-use Rattle.std.specs.Prelude.{◌≡◌, ℕ, ◌<◌, ◌≤◌, ◌-◌, ◌*◌, Bool, true, false, Result, Ok, Err, List, Option, Some, None, length}
+use Rattle.std.specs.Prelude.{◌≡◌, ℕ, ◌<◌, ◌≤◌, ◌-◌, ◌*◌, Bool, true, false, Result, Ok, Err, List, Option, length}
 use Rattle.cell_die.specs.DieState.{DieState}
 use Rattle.striped.specs.Meaning.{Meaning}
 use Rattle.sector_map.specs.declared.entry.Entry.{Entry}

@@ -2,7 +2,7 @@
 use Rattle.std.specs.Prelude.{ℕ, ◌+◌, ◌-◌, ◌*◌, Bool, ◌==◌, nat_lt, if◌then◌else◌, position, Option, Some, None}
 use Rattle.std.specs.List.{reduce}
 use Rattle.block_state.specs.declared.state.State.{State}
-use Rattle.block_state.specs.declared.state.State.TheVariants.{Active, Recycled}
+use Rattle.block_state.specs.declared.state.State.TheVariants.{Recycled}
 use Rattle.block_state.specs.State.{is_active, is_spare}
 use Rattle.block_state.specs.Book.{BookValue, state_at, live_at}
 use Rattle.page_alloc.specs.declared.next_page.NextPage.{NextPage}

@@ -1,6 +1,6 @@
 -- What the collection leaves is a page at hand, or one of the two failures.
 use Rattle.std.specs.Prelude.{min}
-use Rattle.std.proofs.Common.{◌≡◌, ℕ, ◌+◌, ◌*◌, ◌<◌, ◌≤◌, Err, List, length, Option, refl, sym, ap, ap₂, ◌∙◌, subst, arith}
+use Rattle.std.proofs.Common.{ℕ, ◌+◌, ◌*◌, ◌<◌, ◌≤◌, Err, length, Option, sym, ap, ap₂, ◌∙◌, subst, arith}
 use Rattle.std.proofs.Math.Nat.{mul-le-mul}
 use Rattle.std.proofs.lemmas.Bool.{false≢true}
 use Rattle.block_state.specs.State.{is_spare}
@@ -8,7 +8,6 @@ use Rattle.block_state.specs.Book.{BookValue, live_at, state_at}
 use Rattle.page_codec.specs.declared.fault.PutFault.{PutFault}
 use Rattle.sector_map.specs.declared.entry.Entry.{Entry}
 use Rattle.collector.specs.Erases.{erased_in, EraseEnds}
-use Rattle.collector.proofs.Tables.{live_map_long}
 use Rattle.rssd_core.proofs.ClosedBlocks.{within_blocks}
 use Rattle.rssd_core.proofs.StoreLaws.{after_keeps, after_held}
 use Rattle.rssd_core.proofs.StoreOpening.{true_before, collect_here, victim_few, true_long, collect_opened, collect_unread_here, collect_failed_here}
@@ -16,9 +15,12 @@ use Rattle.rssd_core.proofs.store.Store.collect_page.Goals as goal
 
 pub collect-requires-clause-branch : goal.collect-requires-clause-branch
 collect-requires-clause-branch g c =
-    let true_tables = true_before c.self.view_is c.self.invariant c.requires.running in
-    (c.args.victim, c.args.spare, collect_here c.self.view_is c.self.invariant c.requires.running c.args.spare c.requires.branch,
-     subst (λ (n : ℕ). live_at c.self.inside.book c.args.victim < n) (sym true_tables.sizes.pages) (victim_few c.self.view_is c.self.invariant c.requires.running c.args.spare c.requires.branch))
+    let true_tables = true_before c.self.view_is c.self.invariant c.requires.running in (
+      c.args.victim,
+      c.args.spare,
+      collect_here c.self.view_is c.self.invariant c.requires.running c.args.spare c.requires.branch,
+      subst (λ (n : ℕ). live_at c.self.inside.book c.args.victim < n) (sym true_tables.sizes.pages) (victim_few c.self.view_is c.self.invariant c.requires.running c.args.spare c.requires.branch),
+    )
 
 pub overflow_add-result : goal.overflow_add-result
 overflow_add-result g c =

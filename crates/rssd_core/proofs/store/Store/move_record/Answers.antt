@@ -1,7 +1,6 @@
 -- What the move leaves, by the parts of the store.
-use Rattle.std.proofs.Common.{true, false, length, Option, Ok, Err, refl, sym, ap, ◌∙◌, subst}
+use Rattle.std.proofs.Common.{length, Ok, Err, refl, sym, ap, subst}
 use Rattle.std.proofs.lemmas.Bool.{false≢true}
-use Rattle.sector_map.specs.declared.entry.Entry.{Entry}
 use Rattle.collector.specs.Moves.{NoMoveLeft}
 use Rattle.collector.specs.Store.{Store}
 use Rattle.rssd_core.proofs.StoreLaws.{after_keeps, after_held}

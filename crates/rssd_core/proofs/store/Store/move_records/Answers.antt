@@ -1,7 +1,6 @@
 -- Each move goes on from the last one, with the same numbers.
-use Rattle.std.proofs.Common.{rules, ◌≡◌, ◌∙◌, Ok, Err, refl, ap, arith}
+use Rattle.std.proofs.Common.{rules, Ok, Err, ap, arith}
 use Rattle.striped.specs.Meaning.{Meaning}
-use Rattle.cell_die.specs.Counts.{count_sum}
 use Rattle.rssd_core.specs.Idle.{none}
 use Rattle.rssd_core.proofs.IdleEnds.{one_more, none_more, failed_move}
 use Rattle.rssd_core.proofs.StoreLaws.{keeps_refl, keeps_trans}

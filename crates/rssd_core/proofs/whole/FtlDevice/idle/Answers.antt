@@ -18,7 +18,7 @@ returns-in-Some-clause-holds g c =
 pub returns-clause-idled : goal.returns-clause-idled
 returns-clause-idled g c =
     let moves : Idling g.C.Scheme.meaning c.args.self.now c.self.inside.reuse_max c.self.inside.tallies c.self.inside.store c.move_records-moves.new.self c.settle.new.self
-        c.args.n c.move_records-moves.result.count c.move_records-moves.result.fault = record {
+    c.args.n c.move_records-moves.result.count c.move_records-moves.result.fault = record {
       call = record {
         run = record { is = c.self.view_is; stands = c.stopped.ensures.stands; running = sym c.stopped.ensures.stopped ∙ c.if-stopped.false };
         keeps = c.move_records-moves.ensures.keeps;
@@ -36,7 +36,7 @@ returns-clause-idled g c =
 pub returns-in-Some-clause-fault : goal.returns-in-Some-clause-fault
 returns-in-Some-clause-fault g c =
     let moves : Idling g.C.Scheme.meaning c.args.self.now c.self.inside.reuse_max c.self.inside.tallies c.self.inside.store c.move_records-moves.new.self c.settle.new.self
-        c.args.n c.move_records-moves.result.count c.move_records-moves.result.fault = record {
+    c.args.n c.move_records-moves.result.count c.move_records-moves.result.fault = record {
       call = record {
         run = record { is = c.self.view_is; stands = c.stopped.ensures.stands; running = sym c.stopped.ensures.stopped ∙ c.if-stopped.false };
         keeps = c.move_records-moves.ensures.keeps;

@@ -30,15 +30,15 @@ returns-in-Err-clause-holds g c =
 pub returns-clause-trimmed : goal.returns-clause-trimmed
 returns-clause-trimmed g c =
     let trim : Trimming g.C.Scheme.meaning c.args.self.now c.self.inside.reuse_max c.self.inside.tallies c.self.inside.store c.clear-ended.new.self c.settle.new.self
-        c.args.sector c.clear-ended.result = record {
+    c.args.sector c.clear-ended.result = record {
       call = record {
-      run = record { is = c.self.view_is; stands = c.check.ensures.stands; running = c.in_ok-check.ensures.running };
-      keeps = c.clear-ended.ensures.keeps;
-      settles = c.settle.ensures.keeps;
-      recycles = c.settle.ensures.recycles;
-      halted = c.settle.ensures.halted;
-      same = c.settle.ensures.same;
-    };
+        run = record { is = c.self.view_is; stands = c.check.ensures.stands; running = c.in_ok-check.ensures.running };
+        keeps = c.clear-ended.ensures.keeps;
+        settles = c.settle.ensures.keeps;
+        recycles = c.settle.ensures.recycles;
+        halted = c.settle.ensures.halted;
+        same = c.settle.ensures.same;
+      };
       fresh = not_spent c.self.inside.store.cells.seq c.is_spent.ensures c.if-is_spent.false;
       few_moved = c.check.ensures.few_moved;
       within = c.in_ok-check.ensures.within;
@@ -51,15 +51,15 @@ returns-clause-trimmed g c =
 pub returns-in-Err-clause-fault : goal.returns-in-Err-clause-fault
 returns-in-Err-clause-fault g c =
     let trim : Trimming g.C.Scheme.meaning c.args.self.now c.self.inside.reuse_max c.self.inside.tallies c.self.inside.store c.clear-ended.new.self c.settle.new.self
-        c.args.sector c.clear-ended.result = record {
+    c.args.sector c.clear-ended.result = record {
       call = record {
-      run = record { is = c.self.view_is; stands = c.check.ensures.stands; running = c.in_ok-check.ensures.running };
-      keeps = c.clear-ended.ensures.keeps;
-      settles = c.settle.ensures.keeps;
-      recycles = c.settle.ensures.recycles;
-      halted = c.settle.ensures.halted;
-      same = c.settle.ensures.same;
-    };
+        run = record { is = c.self.view_is; stands = c.check.ensures.stands; running = c.in_ok-check.ensures.running };
+        keeps = c.clear-ended.ensures.keeps;
+        settles = c.settle.ensures.keeps;
+        recycles = c.settle.ensures.recycles;
+        halted = c.settle.ensures.halted;
+        same = c.settle.ensures.same;
+      };
       fresh = not_spent c.self.inside.store.cells.seq c.is_spent.ensures c.if-is_spent.false;
       few_moved = c.check.ensures.few_moved;
       within = c.in_ok-check.ensures.within;

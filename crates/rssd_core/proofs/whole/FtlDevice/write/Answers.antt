@@ -21,15 +21,15 @@ returns-in-Err-clause-holds g c =
 pub returns-in-Ok-clause-wrote : goal.returns-in-Ok-clause-wrote
 returns-in-Ok-clause-wrote g c =
     let write : Writing g.C.Scheme.meaning c.args.self.now c.self.inside.reuse_max c.self.inside.tallies c.self.inside.store c.place-ended.new.self c.settle.new.self
-        c.args.sector c.args.bytes.now c.place-ended.result = record {
+    c.args.sector c.args.bytes.now c.place-ended.result = record {
       call = record {
-      run = record { is = c.self.view_is; stands = c.check.ensures.stands; running = c.in_ok-check.ensures.running };
-      keeps = c.place-ended.ensures.keeps;
-      settles = c.settle.ensures.keeps;
-      recycles = c.settle.ensures.recycles;
-      halted = c.settle.ensures.halted;
-      same = c.settle.ensures.same;
-    };
+        run = record { is = c.self.view_is; stands = c.check.ensures.stands; running = c.in_ok-check.ensures.running };
+        keeps = c.place-ended.ensures.keeps;
+        settles = c.settle.ensures.keeps;
+        recycles = c.settle.ensures.recycles;
+        halted = c.settle.ensures.halted;
+        same = c.settle.ensures.same;
+      };
       fresh = not_spent c.self.inside.store.cells.seq c.is_spent.ensures c.if-is_spent.false;
       few_moved = c.check.ensures.few_moved;
       few_first = search rules;
@@ -44,15 +44,15 @@ returns-in-Ok-clause-wrote g c =
 pub returns-in-Err-clause-fault : goal.returns-in-Err-clause-fault
 returns-in-Err-clause-fault g c =
     let write : Writing g.C.Scheme.meaning c.args.self.now c.self.inside.reuse_max c.self.inside.tallies c.self.inside.store c.place-ended.new.self c.settle.new.self
-        c.args.sector c.args.bytes.now c.place-ended.result = record {
+    c.args.sector c.args.bytes.now c.place-ended.result = record {
       call = record {
-      run = record { is = c.self.view_is; stands = c.check.ensures.stands; running = c.in_ok-check.ensures.running };
-      keeps = c.place-ended.ensures.keeps;
-      settles = c.settle.ensures.keeps;
-      recycles = c.settle.ensures.recycles;
-      halted = c.settle.ensures.halted;
-      same = c.settle.ensures.same;
-    };
+        run = record { is = c.self.view_is; stands = c.check.ensures.stands; running = c.in_ok-check.ensures.running };
+        keeps = c.place-ended.ensures.keeps;
+        settles = c.settle.ensures.keeps;
+        recycles = c.settle.ensures.recycles;
+        halted = c.settle.ensures.halted;
+        same = c.settle.ensures.same;
+      };
       fresh = not_spent c.self.inside.store.cells.seq c.is_spent.ensures c.if-is_spent.false;
       few_moved = c.check.ensures.few_moved;
       few_first = search rules;
