@@ -14,6 +14,6 @@ mod store;
 pub mod whole;
 pub mod worst;
 
-pub use device::{Counts, FtlError, MountError, Placed, Plan, Refused};
+pub use device::{Counts, Device, FtlError, MountError, Placed, Plan, PowerDevice, Refused};
 pub use mounting::mount;
 pub use whole::Ftl;
