@@ -1,28 +1,29 @@
 -- The counts of a device's calls, bounded by the device's numbers.
-use Rattle.std.proofs.Common.{◌≡◌, ℕ, ◌+◌, ◌-◌, ◌*◌, ◌/◌, ◌<◌, ◌≤◌, Bool, true, false, cond, if◌then◌else◌, ◌==◌, List, [], ◌∷◌, sum_by, count_by, Option, Some, None, sym, subst, arith}
+use Rattle.std.proofs.Common.{◌≡◌, ℕ, ◌+◌, ◌-◌, ◌*◌, ◌<◌, ◌≤◌, Bool, true, false, cond, if◌then◌else◌, ◌==◌, List, [], ◌∷◌, sum_by, count_by, Option, Some, None, sym, subst, arith}
 use Rattle.std.specs.List.{range_with_len}
 use Rattle.std.proofs.lemmas.Nat.{div-add-mod'}
 use Rattle.std.proofs.lemmas.List.Sums.{sum_by-append}
 use native.Mathlib.Nat.{mul-le-mul_right}
 use Rattle.block_state.specs.declared.state.State.{State}
 use Rattle.block_state.specs.declared.state.State.TheVariants.{Spare}
-use Rattle.block_state.specs.Book.{BookValue, state_at, live_at}
+use Rattle.block_state.specs.Book.{state_at, live_at}
 use Rattle.page_alloc.specs.declared.next_page.NextPage.{NextPage}
 use Rattle.page_alloc.specs.declared.next_page.NextPage.TheVariants.{Page, Take, Wipe, Collect}
 use Rattle.page_alloc.specs.CleanPage.{IsNext, IsCollectBranch}
-use Rattle.page_codec.specs.Geometry.{Geometry, units}
+use Rattle.page_codec.specs.Geometry.{Geometry}
 use Rattle.page_codec.specs.Records as records
 use Rattle.page_codec.specs.Records.{live_record}
 use Rattle.page_codec.specs.Sectors.{says_zeros}
 use Rattle.page_codec.specs.Sound.{stands_in, live_count}
-use Rattle.page_codec.specs.TrueBook.{IsTrue, IsTrueBook, live_map}
+use Rattle.page_codec.specs.TrueBook.{IsTrueBook, live_map}
+use Rattle.collector.specs.Moves.{get_reads}
 use Rattle.rssd_core.specs.declared.device.Placed.{Placed}
 use Rattle.rssd_core.specs.declared.device.Placed.TheVariants.{First, Second, Declined}
 use Rattle.rssd_core.specs.Rules.{next_page}
-use Rattle.rssd_core.specs.Calls.{erase_calls, calls_before, clean_calls, collection_reads, get_reads, move_reads}
+use Rattle.rssd_core.specs.Calls.{erase_calls, calls_before, clean_calls, collection_reads}
 use Rattle.rssd_core.specs.DeviceValue.{Numbers, DeviceView}
 use Rattle.rssd_core.specs.Steps.{IsSized}
-use Rattle.rssd_core.specs.Within.{holds_bytes, record_of, write_calls, write_reads, trim_calls, trim_reads}
+use Rattle.rssd_core.specs.Within.{holds_bytes, record_of, write_calls, write_reads}
 use Rattle.rssd_core.specs.WorstCases.{most_changes, most_collection_reads, WorstCases}
 use Rattle.rssd_core.proofs.Chained.{count_by-append}
 use Rattle.rssd_core.proofs.ClosedBlocks.{closed_within}

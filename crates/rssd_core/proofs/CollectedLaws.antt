@@ -14,10 +14,10 @@ use Rattle.page_alloc.specs.CleanPage.{IsPageBranch, IsCollectBranch}
 use Rattle.mount_scan.specs.Settled.{is_clean}
 use Rattle.page_codec.specs.Geometry.{Geometry}
 use Rattle.collector.specs.Store.{Store, IsTrueStore}
-use Rattle.collector.specs.Effects.{sealed}
+use Rattle.collector.specs.Effects.{sealed, fill_of}
 use Rattle.collector.specs.Collections.{Collected, CollectReadFailed, CollectChangeFailed, Marks, as_it_was, erased, copied_to, erased_and_copied_to}
 use Rattle.collector.proofs.Books.{state_here, state_there}
-use Rattle.rssd_core.specs.Rules.{first_block, fewer, victim_of, fill_of, from_active, from_clean, from_victim, next_page}
+use Rattle.rssd_core.specs.Rules.{first_block, fewer, victim_of, from_active, from_clean, from_victim, next_page}
 use Rattle.rssd_core.specs.BookChanges.{Change, Erases, Copies, Seals, Leads, EachOnce, passes, is_offer}
 use Rattle.rssd_core.specs.Calls.{calls_before, collection_reads, copies_due, named_page}
 use Rattle.collector.specs.Erases.{erased_in, ErasedOrBroken}

@@ -1,8 +1,8 @@
 -- Erase counts, through the steps of a write or trim.
-use Rattle.std.proofs.Common.{◌≡◌, ◌⊎◌, inl, inr, ℕ, ◌≤◌, List, Option, None, Some, sym, ap, ◌∙◌, subst, arith, slice_index}
+use Rattle.std.proofs.Common.{◌≡◌, ◌⊎◌, inl, inr, ℕ, ◌≤◌, List, Option, None, Some, ap, ◌∙◌, subst, arith, slice_index}
 use Rattle.cell_die.specs.DieState.{DieState}
 use Rattle.cell_die.specs.Changes.{SameCells, OnlyBlock, IsErased, ErasedInPart}
-use Rattle.cell_die.specs.Calls.{Passed, ReadFailed, ChangeFailed}
+use Rattle.cell_die.specs.Calls.{Passed, ChangeFailed}
 use Rattle.cell_die.proofs.Sequences.{read_failed_after, change_failed_after, read_failed_within, change_failed_within}
 use Rattle.collector.specs.Erases.{ErasedOrBroken}
 use Rattle.rssd_core.specs.Erases.{Erased, ErasedOrFailed}

@@ -14,7 +14,8 @@ use Rattle.block_state.specs.Victim.{NoneFits}
 use Rattle.reuse_pool.specs.Recycling.{IsDue, Recycles, is_used, recycled}
 use Rattle.reuse_pool.proofs.Steps.{due_within, kept_by_run}
 use Rattle.collector.specs.Moves.{IsRoom, NoMoveLeft}
-use Rattle.rssd_core.specs.Rules.{fill_of, first_block, room_in, room_left}
+use Rattle.collector.specs.Effects.{fill_of}
+use Rattle.rssd_core.specs.Rules.{first_block, room_in, room_left}
 use Rattle.rssd_core.proofs.Rules as rules
 
 -- ---- one use of the recycling rule

@@ -23,13 +23,14 @@ use Rattle.page_codec.specs.Puts.{first_slot}
 use Rattle.page_codec.specs.Records.{Placed, live_record}
 use Rattle.page_codec.specs.TrueBook.{IsTrueState}
 use Rattle.collector.specs.Effects as effects
-use Rattle.collector.specs.Moves.{Moved, IsFirstLive, plain_kind}
+use Rattle.collector.specs.Moves.{Moved, IsFirstLive, plain_kind, move_reads as reads_of_move}
 use Rattle.collector.specs.Store.{Store, IsTrueStore, SameRows, Holds}
 use Rattle.collector.proofs.Books.{recorded_states, active_within, state_here, state_there}
 use Rattle.collector.proofs.Tables.{filled_is, next_state}
+use Rattle.collector.specs.Effects.{fill_of}
 use Rattle.rssd_core.specs.BookChanges.{Change, Fills, Leads, filled_in, is_idle}
-use Rattle.rssd_core.specs.Calls.{move_reads, reads_of_move}
-use Rattle.rssd_core.specs.Rules.{fill_of, first_block, next_page}
+use Rattle.rssd_core.specs.Calls.{move_reads}
+use Rattle.rssd_core.specs.Rules.{first_block, next_page}
 use Rattle.rssd_core.specs.DeviceValue.{Numbers}
 use Rattle.rssd_core.specs.Idle.{MovesRun, none, more}
 use Rattle.rssd_core.specs.IdleRule.{MovesByRule}

@@ -15,7 +15,8 @@ use Rattle.reuse_pool.specs.declared.unit.ReuseUnit.{ReuseUnit}
 use Rattle.reuse_pool.specs.Offer.{IsOffer, passed}
 use Rattle.mount_scan.specs.Settled.{is_clean}
 use Rattle.collector.proofs.Books.{state_there}
-use Rattle.rssd_core.specs.Rules.{first_block, fewer, victim_of, fill_of, from_active, from_clean, from_victim, next_page}
+use Rattle.collector.specs.Effects.{fill_of}
+use Rattle.rssd_core.specs.Rules.{first_block, fewer, victim_of, from_active, from_clean, from_victim, next_page}
 use Rattle.rssd_core.specs.BookChanges.{Change, Takes, Wipes, Erases, Copies, Seals, Fills, Rewrites, Passes, Offers}
 use Rattle.rssd_core.specs.Calls.{calls_before, copies_due, erase_calls}
 use Rattle.collector.specs.Erases.{erased_in}

@@ -25,7 +25,7 @@ use Rattle.rssd_core.proofs.WroteFirst.{view_at, wrote_first, wrote_declined}
 use Rattle.rssd_core.proofs.WroteSecond.{wrote_second}
 
 -- the tallies before a write
-pub record Tallies (first second declined moved : ℕ) : Type 0 where
+pub record FewCounts (first second declined moved : ℕ) : Type 0 where
   pub few_first : first < 2 ^ 64
   pub few_second : second < 2 ^ 64
   pub few_declined : declined < 2 ^ 64
@@ -41,7 +41,7 @@ Faults d sector bytes old new book stopped first second declined moved moved' = 
     (record { numbers = d; view = view_at old first second declined moved; stopped = false })
     (record { numbers = d; view = view_at (record new { book = book }) first second declined moved'; stopped = stopped })
 
-module _ (d : Numbers) (sector : ℕ) (bytes : List ℕ) (old new : Store) (first second declined moved moved' : ℕ) (few : Tallies first second declined moved) (fresh : old.seq < 2 ^ 62)
+module _ (d : Numbers) (sector : ℕ) (bytes : List ℕ) (old new : Store) (first second declined moved moved' : ℕ) (few : FewCounts first second declined moved) (fresh : old.seq < 2 ^ 62)
     (t : IsTrueStore d.geometry old) (holds : stores.Holds d.geometry old new) where
   none_first : (n : ℕ) → n < 2 ^ 64 → count_sum n 0 ≡ n
   none_first n small = omega arith

@@ -1,21 +1,27 @@
 -- The row of a map's entry is the stored sector, and the pages of a held record are pages of the die.
-use Rattle.std.proofs.Common.{◌≡◌, ℕ, ◌+◌, ◌-◌, ◌<◌, ◌≤◌, Bool, true, false, List, [], length, if◌then◌else◌, ◌==◌, Option, Some, None, refl, sym, ap, ◌∙◌, subst, arith}
+use Rattle.std.proofs.Common.{◌≡◌, inl, ℕ, ◌+◌, ◌-◌, ◌<◌, ◌≤◌, Bool, true, false, List, [], length, if◌then◌else◌, ◌==◌, Option, Some, None, refl, sym, ap, ◌∙◌, subst, arith}
 use Rattle.std.specs.Prelude.{slice_index_or}
 use Rattle.cell_die.specs.declared.shape.Shape.{Shape}
+use Rattle.cell_die.specs.Calls.{Kept}
+use Rattle.cell_die.specs.Changes.{SameCells}
 use Rattle.cell_die.specs.DieState.{DieState, page_count}
+use Rattle.cell_die.specs.Pads.{NoPadCharged}
 use Rattle.striped.specs.Meaning.{Meaning}
 use Rattle.sector_map.specs.declared.entry.Entry.{Entry}
 use Rattle.sector_map.specs.Entry.{entry_at}
 use Rattle.block_state.specs.Book.{BookValue}
-use Rattle.page_codec.specs.Geometry.{Geometry, block_of}
+use Rattle.page_codec.specs.Geometry.{Geometry, block_of, shape_of}
 use Rattle.page_codec.specs.Records as records
-use Rattle.page_codec.specs.Records.{live_record}
+use Rattle.page_codec.specs.Records.{live_record, header_in}
 use Rattle.page_codec.specs.Sectors.{says_zeros, said_by, stored}
+use Rattle.page_codec.specs.Sizes.{Sizes}
+use Rattle.page_codec.specs.Sound.{IsSound}
 use Rattle.page_codec.specs.TrueBook.{IsTrue, entry_of}
-use Rattle.collector.specs.Store.{geometry_of}
+use Rattle.collector.specs.Store.{geometry_of, store, IsTrueStore, Holds}
 use Rattle.collector.proofs.Rows.{row_of}
 use Rattle.collector.proofs.Room as room
-use Rattle.rssd_core.specs.Calls.{get_reads}
+use Rattle.collector.specs.Moves.{get_reads}
+use Rattle.rssd_core.specs.Held.{Held, IsHeld, held}
 use Rattle.rssd_core.specs.Steps.{IsSized}
 use Rattle.rssd_core.specs.EntryRow.{entry_row, entry_reads, HasPages}
 use Rattle.rssd_core.proofs.RecordLaws.{entry_is, block_below}
@@ -80,3 +86,41 @@ module _ (die : DieState) (meaning : Meaning) (table : List (Option Entry)) (boo
 
   pub entry_pages : HasPages meaning die.shape (entry_at table sector)
   entry_pages = subst (HasPages meaning die.shape) (sym entry_live) (pages_in (live_record (geometry_of die.shape meaning (length table)) die.cells sector) refl)
+
+-- ---- a read of a store
+
+-- a read that changes no cell keeps all
+pub read_holds : (g : Geometry) (table : List (Option Entry)) (book : BookValue) (seq : ℕ) {die new : DieState}
+    → SameCells die new → Kept die new → Holds g (store die table book seq) (store new table book seq)
+read_holds g table book seq same kept = record {
+  kept = kept;
+  pads = subst (NoPadCharged (shape_of g)) (sym same.cells);
+  sound = subst (IsSound g) (sym same.cells);
+  seqs = omega arith;
+  drew = λ why place h e. inl (ap (λ (cells : List (List ℕ)). header_in g cells place) (sym same.cells) ∙ e);
+}
+
+pub read_tables : (g : Geometry) {die new : DieState} {table : List (Option Entry)} {book : BookValue} {seq : ℕ}
+    → SameCells die new → IsTrueStore g (store die table book seq) → IsTrueStore g (store new table book seq)
+read_tables g {table = table} {book = book} {seq = seq} same = subst (λ (cells : List (List ℕ)). IsTrue g cells book table seq) (sym same.cells)
+
+-- what is so of the entry is so of the sector
+module _ {C : Type 0} {meaning : C → Meaning} {sizes : Sizes} {room : ℕ} {die : DieState} {scheme : C} {table : List (Option Entry)} {book : BookValue} {seq moved sector : ℕ} {stopped : Bool}
+    {old : Held C} {entry : Option Entry} (kept : IsHeld meaning sizes room (held meaning die scheme table book seq moved stopped)) (is : held meaning die scheme table book seq moved stopped ≡ old)
+    (running : old.stopped ≡ false) (within : sector < old.geometry.sectors) (found : entry ≡ entry_at table sector) where
+  runs : IsTrueStore (geometry_of die.shape (meaning scheme) (length table)) (store die table book seq)
+  runs = kept.stands.tables (subst (λ (x : Held C). x.stopped ≡ false) (sym is) running)
+
+  inside : sector < length table
+  inside = subst (λ (x : Held C). sector < x.geometry.sectors) (sym is) within
+
+  pub read_pages : HasPages (meaning scheme) die.shape entry
+  read_pages = subst (HasPages (meaning scheme) die.shape) (sym found) (entry_pages die (meaning scheme) table book seq sector kept.stands.sized runs inside)
+
+  pub read_row : entry_row (meaning scheme) die entry ≡ slice_index_or (stored old.geometry (meaning old.scheme).decoding old.cells.die.cells) sector []
+  read_row = subst (λ (x : Held C). entry_row (meaning scheme) die entry ≡ slice_index_or (stored x.geometry (meaning x.scheme).decoding x.cells.die.cells) sector []) is
+      (ap (entry_row (meaning scheme) die) found ∙ entry_row_is die (meaning scheme) table book seq sector kept.stands.sized runs inside)
+
+  pub read_calls : (P : ℕ → DieState → Type 0) → P (entry_reads (meaning scheme) entry) die → P (get_reads old.geometry (live_record old.geometry old.cells.die.cells sector)) old.cells.die
+  read_calls P made = subst (λ (x : Held C). P (get_reads x.geometry (live_record x.geometry x.cells.die.cells sector)) x.cells.die) is
+      (subst (λ (n : ℕ). P n die) (ap (entry_reads (meaning scheme)) found ∙ entry_reads_are die (meaning scheme) table book seq sector kept.stands.sized runs inside) made)

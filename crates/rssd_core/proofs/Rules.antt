@@ -17,7 +17,8 @@ use Rattle.page_alloc.specs.CleanPage.{IsNext, NoneOpen}
 use Rattle.reuse_pool.specs.declared.unit.ReuseUnit.{ReuseUnit}
 use Rattle.reuse_pool.specs.Offer.{is_recycled, IsOffer, NoneRecycledBelow}
 use Rattle.mount_scan.specs.Settled.{is_clean}
-use Rattle.rssd_core.specs.Rules.{first_block, victim_of, fill_of, from_active, from_clean, from_victim, next_page, unit_in, unit_of, offer_of}
+use Rattle.collector.specs.Effects.{fill_of}
+use Rattle.rssd_core.specs.Rules.{first_block, victim_of, from_active, from_clean, from_victim, next_page, unit_in, unit_of, offer_of}
 
 -- ---- the first place at which a test passes
 

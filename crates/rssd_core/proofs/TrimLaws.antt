@@ -28,7 +28,7 @@ use Rattle.rssd_core.specs.Calls.{calls_before, clean_calls, collection_calls, c
 use Rattle.rssd_core.specs.Erases.{erase_due}
 use Rattle.rssd_core.proofs.ErasesLaws.{erased_then}
 use Rattle.rssd_core.specs.Clearing.{is_held, zeros_header, ClearEnds, Cleared}
-use Rattle.rssd_core.specs.DeviceValue.{Numbers, DeviceView}
+use Rattle.rssd_core.specs.DeviceValue.{Numbers}
 use Rattle.rssd_core.specs.Failures.{cut_of}
 use Rattle.rssd_core.specs.Outcomes.{Trimmed, TrimFault}
 use Rattle.rssd_core.specs.Steps.{Opened, OpenReadFailed, OpenChangeFailed, PutNext, PutNextFailed}
@@ -52,9 +52,9 @@ held_record g s sector t within =
     ap (λ (table : List (Option Entry)). is_held (entry_at table sector)) t.entries
     ∙ (ap is_held (entry_is g s.die.cells sector within) ∙ held_is (live_record g s.die.cells sector))
 
--- the test of a trim tells whether the live record holds bytes
-pub told_is : (g : Geometry) (s : Store) (sector : ℕ) → IsTrueStore g s → sector < g.sectors → (entry : Option Entry) (held : Bool) → entry ≡ entry_at s.table sector → held ≡ is_held entry → holds_bytes (live_record g s.die.cells sector) ≡ held
-told_is g s sector t within entry held found tells = sym (tells ∙ (ap is_held found ∙ held_record g s sector t within))
+-- whether the map's entry holds bytes tells whether the live record does
+pub told_is : (g : Geometry) (s : Store) (sector : ℕ) → IsTrueStore g s → sector < g.sectors → holds_bytes (live_record g s.die.cells sector) ≡ is_held (entry_at s.table sector)
+told_is g s sector t within = sym (held_record g s sector t within)
 
 -- a sector without bytes is zeros
 said_zeros : (g : Geometry) (d : Decoding) (cells : List (List ℕ)) (o : Option records.Placed) → holds_bytes o ≡ false → said_by g d cells o ≡ zero_sector g
@@ -248,20 +248,3 @@ module _ (d : Numbers) (sector : ℕ) (old : Store) (first second declined moved
     pub trim_unchanged : (moved' : ℕ) → moved < 2 ^ 64 → ClearEnds d.geometry d.meaning.decoding sector (Err (faults.Change)) old new moved moved' → TrimFaults d sector old new new.book true first second declined moved moved'
     trim_unchanged moved' few (inl p) = subst (λ (m : ℕ). TrimFaults d sector old new new.book true first second declined moved m) (sym p.1) (open_failed few p.0)
     trim_unchanged moved' few (inr p) = subst (λ (m : ℕ). TrimFaults d sector old new new.book true first second declined moved m) (sym p.tally) (put_failed p.page p.rise p.mid p.opened p.put)
-
--- ---- the same device by its parts
-
-pub trimmed_so : (d : Numbers) (sector : ℕ) (a b : DeviceView) (numbers' : Numbers) (stopped : Bool) → numbers' ≡ d → stopped ≡ false
-    → Trimmed d sector (record { numbers = d; view = a; stopped = false }) (record { numbers = d; view = b; stopped = false })
-    → Trimmed d sector (record { numbers = d; view = a; stopped = stopped }) (record { numbers = numbers'; view = b; stopped = stopped })
-trimmed_so d sector a b numbers' stopped same running w =
-    subst (λ (t : Bool). Trimmed d sector (record { numbers = d; view = a; stopped = t }) (record { numbers = numbers'; view = b; stopped = t })) (sym running)
-    (subst (λ (n : Numbers). Trimmed d sector (record { numbers = d; view = a; stopped = false }) (record { numbers = n; view = b; stopped = false })) (sym same) w)
-
-pub trim_fault_so : (d : Numbers) (sector : ℕ) (a b : DeviceView) (numbers' : Numbers) (stopped stopped' after : Bool) → numbers' ≡ d → stopped ≡ false → after ≡ stopped'
-    → TrimFault d sector (record { numbers = d; view = a; stopped = false }) (record { numbers = d; view = b; stopped = after })
-    → TrimFault d sector (record { numbers = d; view = a; stopped = stopped }) (record { numbers = numbers'; view = b; stopped = stopped' })
-trim_fault_so d sector a b numbers' stopped stopped' after same running ends w =
-    subst (λ (t : Bool). TrimFault d sector (record { numbers = d; view = a; stopped = t }) (record { numbers = numbers'; view = b; stopped = stopped' })) (sym running)
-    (subst (λ (n : Numbers). TrimFault d sector (record { numbers = d; view = a; stopped = false }) (record { numbers = n; view = b; stopped = stopped' })) (sym same)
-    (subst (λ (t : Bool). TrimFault d sector (record { numbers = d; view = a; stopped = false }) (record { numbers = d; view = b; stopped = t })) ends w))

@@ -1,14 +1,15 @@
 -- How a device's book changes: uses of its rules, in order.
-use Rattle.std.specs.Prelude.{◌≡◌, ℕ, ◌+◌, ◌-◌, ◌≤◌, Bool, true, false, List, [], ◌∷◌, ◌++◌, ◌==◌, if◌then◌else◌, Option, Some, None}
+use Rattle.std.specs.Prelude.{◌≡◌, ℕ, ◌≤◌, Bool, true, false, List, [], ◌∷◌, ◌++◌, Option, Some, None}
 use Rattle.std.specs.List.{count_by}
-use Rattle.block_state.specs.declared.state.State.TheVariants.{Active, Used, Spare}
+use Rattle.block_state.specs.declared.state.State.TheVariants.{Active, Spare}
 use Rattle.block_state.specs.State.{is_active}
-use Rattle.block_state.specs.Book.{BookValue, state_at, live_at, with_state, with_live}
+use Rattle.block_state.specs.Book.{BookValue, state_at, with_state}
 use Rattle.page_alloc.specs.declared.next_page.NextPage.TheVariants.{Page, Take, Wipe, Collect}
 use Rattle.reuse_pool.specs.declared.unit.ReuseUnit.{ReuseUnit}
 use Rattle.reuse_pool.specs.Offer.{passed}
 use Rattle.reuse_pool.specs.Recycling.{Recycles}
-use Rattle.rssd_core.specs.Rules.{next_page, fill_of, first_block, offer_of}
+use Rattle.collector.specs.Effects.{recorded, filled, sealed}
+use Rattle.rssd_core.specs.Rules.{next_page, first_block, offer_of}
 
 -- one use of a rule. `former` is the block of the sector's former live record
 pub data Change : Type 0 where
@@ -29,30 +30,10 @@ pub data Change : Type 0 where
   -- blocks that are due offer their units
   Offers : Change
 
--- one live record less in the block of the former one
-abbrev pub one_less : BookValue → Option ℕ → BookValue
-one_less v None = v
-one_less v (Some former) = with_live v former (live_at v former - 1)
-
--- one live record more in a block, and one less in that of the former one
-abbrev pub recorded : BookValue → ℕ → Option ℕ → BookValue
-recorded v block former = one_less (with_live v block (live_at v block + 1)) former
-
--- the Active block after a record on its page `fill`: it closes where that was its last page
-abbrev pub filled : BookValue → ℕ → BookValue
-filled v block =
-    if fill_of (state_at v block) + 1 == v.pages then with_state v block (Used 0)
-    else with_state v block (Active (fill_of (state_at v block) + 1))
-
 -- the record effect on the Active block's next page
 abbrev pub filled_in : BookValue → Option ℕ → Option ℕ → BookValue
 filled_in v None former = v
 filled_in v (Some block) former = filled (recorded v block former) block
-
--- the Spare becomes Active with the copies, and the victim becomes the Spare, not known to be blank
-abbrev pub sealed : BookValue → ℕ → ℕ → BookValue
-sealed v victim spare =
-    with_state (with_live (with_live (with_state v spare (Active (live_at v victim))) spare (live_at v victim)) victim 0) victim (Spare false)
 
 -- the victim is to be collected into this Spare
 abbrev pub Collecting : BookValue → ℕ → Type 0

@@ -1,5 +1,5 @@
 -- How many change calls and reads the rules make.
-use Rattle.std.specs.Prelude.{ℕ, ◌+◌, ◌-◌, ◌*◌, true, List, ◌==◌, if◌then◌else◌, max, sum_by, Option, Some, None}
+use Rattle.std.specs.Prelude.{ℕ, ◌+◌, ◌*◌, true, List, if◌then◌else◌, max, sum_by, Option, Some, None}
 use Rattle.std.specs.List.{range_with_len}
 use Rattle.block_state.specs.declared.state.State.{State}
 use Rattle.block_state.specs.declared.state.State.TheVariants.{Spare}
@@ -8,9 +8,9 @@ use Rattle.page_alloc.specs.declared.next_page.NextPage.{NextPage}
 use Rattle.page_alloc.specs.declared.next_page.NextPage.TheVariants.{Page, Take, Wipe, Collect}
 use Rattle.reuse_pool.specs.declared.unit.ReuseUnit.{ReuseUnit}
 use Rattle.page_codec.specs.Geometry.{Geometry}
-use Rattle.page_codec.specs.Records.{Placed, live_record}
-use Rattle.page_codec.specs.Sectors.{says_zeros}
+use Rattle.page_codec.specs.Records.{live_record}
 use Rattle.page_codec.specs.Sound.{stands_in}
+use Rattle.collector.specs.Moves.{get_reads}
 use Rattle.rssd_core.specs.Rules.{next_page}
 
 -- the page that comes next, once it is at hand: behind the copies where the victim is collected
@@ -41,11 +41,6 @@ calls_before v (Collect victim spare) = collection_calls v (Collect victim spare
 abbrev pub clean_calls : BookValue → ℕ
 clean_calls v = calls_before v (next_page v) + 2
 
--- the reads of getting a record's bytes, and none where it holds zeros
-abbrev pub get_reads : Geometry → Option Placed → ℕ
-get_reads g None = 0
-get_reads g (Some placed) = if says_zeros placed.header then 0 else (if placed.place.slot == 0 then 1 else g.span)
-
 -- the reads of a collection: its victim's pages, and those of getting each live record of it that holds bytes
 abbrev pub collection_reads : Geometry → List (List ℕ) → NextPage → ℕ
 collection_reads g cells (Collect victim spare) =
@@ -62,10 +57,6 @@ abbrev pub copies_due : BookValue → NextPage → ℕ
 copies_due v (Collect victim spare) = live_at v victim
 copies_due v _ = 0
 
--- the reads of an idle move: its victim's pages up to that of the first live record, and those of getting that record
-abbrev pub reads_of_move : Geometry → ℕ → Placed → ℕ
-reads_of_move g victim first = (first.place.page + 1 - victim * g.pages) + get_reads g (Some first)
-
--- at most all pages of its block, and then its record
+-- the reads of an idle move: at most all pages of its block, and then its record
 abbrev pub move_reads : Geometry → ℕ
 move_reads g = g.pages + max 1 g.span

@@ -1,5 +1,5 @@
 -- The moves of an idle call, one after another, and how they end.
-use Rattle.std.specs.Prelude.{◌⊎◌, ℕ, ◌+◌, ◌^◌, ◌<◌, ◌≤◌, Option, Some, None}
+use Rattle.std.specs.Prelude.{◌⊎◌, ℕ, ◌+◌, ◌^◌, ◌<◌, ◌≤◌, Bool, true, false, Option, Some, None}
 use Rattle.striped.specs.Meaning.{Decoding}
 use Rattle.page_codec.specs.Geometry.{Geometry}
 use Rattle.page_codec.specs.declared.fault.PutFault.{PutFault}
@@ -33,3 +33,9 @@ abbrev pub MovesEnd : Geometry → Decoding → ℕ → ℕ → Option PutFault 
 MovesEnd g d n k None old new = MovesEnded g d n k old new
 MovesEnd g d n k (Some Read) old new = MovesFailed g d n k old new (λ mid. MoveReadFailed g mid new)
 MovesEnd g d n k (Some Change) old new = MovesFailed g d n k old new (λ mid. MoveChangeFailed g d mid new)
+
+-- a change call ended the moves
+abbrev pub stopped_by : Option PutFault → Bool
+stopped_by None = false
+stopped_by (Some Read) = false
+stopped_by (Some Change) = true

@@ -13,10 +13,10 @@ use Rattle.page_codec.specs.Records.{Placed, live_record}
 use Rattle.page_codec.specs.Sectors.{stored}
 use Rattle.page_codec.specs.TrueBook.{IsTrue, live_map}
 use Rattle.collector.specs.Again.{again}
-use Rattle.collector.specs.Moves.{IsFirstLive}
+use Rattle.collector.specs.Moves.{IsFirstLive, move_reads as reads_of_move}
 use Rattle.rssd_core.specs.Rules.{room_left}
-use Rattle.rssd_core.specs.BookChanges.{recorded, filled}
-use Rattle.rssd_core.specs.Calls.{move_reads, reads_of_move}
+use Rattle.collector.specs.Effects.{recorded, filled}
+use Rattle.rssd_core.specs.Calls.{move_reads}
 use Rattle.rssd_core.specs.DeviceValue.{Numbers, DeviceView, LiveAt}
 use Rattle.rssd_core.specs.Within.{Finished}
 

@@ -1,42 +1,33 @@
 -- A mounted device by its parts.
-use Rattle.std.specs.Prelude.{ℕ, Bool, List, Option, length}
-use Rattle.cell_die.specs.DieState.{DieState}
+use Rattle.std.specs.Prelude.{◌≡◌, ℕ, false}
 use Rattle.striped.specs.Meaning.{Meaning}
-use Rattle.sector_map.specs.declared.entry.Entry.{Entry}
-use Rattle.block_state.specs.Book.{BookValue}
-use Rattle.page_codec.specs.Sizes.{Sizes}
-use Rattle.collector.specs.Store.{geometry_of}
-use Rattle.rssd_core.specs.declared.device.Counts.{Counts}
+use Rattle.page_codec.specs.TrueBook.{RecyclingDone}
+use Rattle.rssd_core.specs.declared.whole.Tallies.{Tallies}
 use Rattle.rssd_core.specs.DeviceValue.{DeviceValue}
+use Rattle.rssd_core.specs.Held.{Held}
 
--- the die and the scheme as they are, the sizes of the buffers, the map, the book, the next seq and the tallies
-pub record Parts (D C : Type 0) : Type 0 where
-  pub die : D
-  pub scheme : C
-  pub sizes : Sizes
-  pub table : List (Option Entry)
-  pub book : BookValue
-  pub seq : ℕ
+-- the store, how many blocks may be Recycled at once, and the tallies of writes
+pub record Parts (C : Type 0) : Type 0 where
+  pub store : Held C
   pub reuse_max : ℕ
-  pub counts : Counts
-  pub stopped : Bool
+  pub tallies : Tallies
 
--- what contracts see of them, by what the die and the scheme show
-abbrev pub device_of : {D C : Type 0} → (D → DieState) → (C → Meaning) → Parts D C → DeviceValue
-device_of state meaning parts = record {
-  numbers = record {
-    geometry = geometry_of (state parts.die).shape (meaning parts.scheme) (length parts.table);
-    meaning = meaning parts.scheme;
-    reuse_max = parts.reuse_max;
-  };
+-- while no change call failed no block is due to be Recycled
+abbrev pub IsSettled : {C : Type 0} → Parts C → Type 0
+IsSettled parts = parts.store.stopped ≡ false → RecyclingDone parts.reuse_max parts.store.cells.book
+
+-- what contracts see of the parts, by what the scheme shows
+abbrev pub device_of : {C : Type 0} → (C → Meaning) → Parts C → DeviceValue
+device_of meaning parts = record {
+  numbers = record { geometry = parts.store.geometry; meaning = meaning parts.store.scheme; reuse_max = parts.reuse_max };
   view = record {
-    die = state parts.die;
-    book = parts.book;
-    seq = parts.seq;
-    first = parts.counts.first;
-    second = parts.counts.second;
-    declined = parts.counts.declined;
-    moved = parts.counts.moved;
+    die = parts.store.cells.die;
+    book = parts.store.cells.book;
+    seq = parts.store.cells.seq;
+    first = parts.tallies.first;
+    second = parts.tallies.second;
+    declined = parts.tallies.declined;
+    moved = parts.store.moved;
   };
-  stopped = parts.stopped;
+  stopped = parts.store.stopped;
 }

@@ -2,7 +2,7 @@
 use Rattle.std.specs.Prelude.{ℕ, ◌+◌, ◌-◌, ◌*◌, Bool, ◌==◌, nat_lt, if◌then◌else◌, position, Option, Some, None}
 use Rattle.std.specs.List.{reduce}
 use Rattle.block_state.specs.declared.state.State.{State}
-use Rattle.block_state.specs.declared.state.State.TheVariants.{Active, Recycled}
+use Rattle.block_state.specs.declared.state.State.TheVariants.{Recycled}
 use Rattle.block_state.specs.State.{is_active, is_spare}
 use Rattle.block_state.specs.Book.{BookValue, state_at, live_at}
 use Rattle.page_alloc.specs.declared.next_page.NextPage.{NextPage}
@@ -10,6 +10,7 @@ use Rattle.page_alloc.specs.declared.next_page.NextPage.TheVariants.{Page, Take,
 use Rattle.reuse_pool.specs.declared.unit.ReuseUnit.{ReuseUnit}
 use Rattle.reuse_pool.specs.Offer.{is_recycled}
 use Rattle.mount_scan.specs.Settled.{is_clean}
+use Rattle.collector.specs.Effects.{fill_of}
 
 -- the lowest-numbered block in such a state
 abbrev pub first_block : (State → Bool) → BookValue → Option ℕ
@@ -22,11 +23,6 @@ fewer v a b = if nat_lt (live_at v b) (live_at v a) then b else a
 -- the victim: of the closed blocks, in their order, the first with the fewest live records
 abbrev pub victim_of : BookValue → Option ℕ
 victim_of v = reduce (fewer v) v.order
-
--- the next page of an Active block
-abbrev pub fill_of : State → ℕ
-fill_of (Active fill) = fill
-fill_of _ = 0
 
 -- the pages that an Active block has left
 abbrev pub room_in : BookValue → Option ℕ → ℕ

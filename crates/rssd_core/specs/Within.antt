@@ -6,10 +6,11 @@ use Rattle.page_alloc.specs.declared.next_page.NextPage.{NextPage}
 use Rattle.page_alloc.specs.declared.next_page.NextPage.TheVariants.{Collect}
 use Rattle.page_codec.specs.Records as records
 use Rattle.page_codec.specs.Sectors.{says_zeros}
+use Rattle.collector.specs.Moves.{get_reads}
 use Rattle.rssd_core.specs.declared.device.Placed.{Placed}
 use Rattle.rssd_core.specs.declared.device.Placed.TheVariants.{First, Second, Declined}
 use Rattle.rssd_core.specs.Rules.{next_page, offer_of}
-use Rattle.rssd_core.specs.Calls.{clean_calls, collection_reads, get_reads, offer_reads, move_reads}
+use Rattle.rssd_core.specs.Calls.{clean_calls, collection_reads, offer_reads, move_reads}
 use Rattle.rssd_core.specs.DeviceValue.{Numbers, DeviceView}
 use Rattle.rssd_core.specs.Moves.{ChangesRose, ChangesStayed}
 use Rattle.rssd_core.specs.Writes.{OfferCarries}

@@ -2,9 +2,8 @@
 use Rattle.std.specs.Prelude.{ℕ, ◌+◌, ◌-◌, ◌*◌, ◌≤◌}
 use Rattle.page_codec.specs.Geometry.{Geometry}
 use Rattle.page_codec.specs.Records as records
-use Rattle.collector.specs.Moves.{IsFirstLive}
+use Rattle.collector.specs.Moves.{IsFirstLive, move_reads as reads_of_move}
 use Rattle.rssd_core.specs.declared.device.Placed.{Placed}
-use Rattle.rssd_core.specs.Calls.{reads_of_move}
 use Rattle.rssd_core.specs.DeviceValue.{Numbers, DeviceView}
 use Rattle.rssd_core.specs.Within.{write_calls, write_reads, trim_calls, trim_reads, sector_reads}
 

@@ -1,21 +1,18 @@
 //! A page for the next record: the Active block's next one, else that of a Clean block that is taken, of a victim that is wiped,
 //! or of the Spare that a victim is collected into.
-ghost use Rattle.std.specs.Prelude.{◌≡◌, ◌-◌, ◌*◌, ◌^◌, ◌<◌, ◌≤◌, length};
-ghost use Rattle.page_codec.specs.Sizes.{Serves, ServesScheme};
-ghost use Rattle.page_codec.specs.TrueBook.{IsTrue};
-ghost use Rattle.collector.specs.Store.{geometry_of, store, Holds};
+ghost use Rattle.std.specs.Prelude.{◌≡◌, ◌*◌, ◌^◌, ◌<◌, false, length};
 ghost use Rattle.block_state.specs.declared.state.State.TheVariants.{Active};
 ghost use Rattle.block_state.specs.Book.{NoneActive, with_state};
-ghost use Rattle.rssd_core.specs.Steps.{IsSized};
+ghost use Rattle.page_alloc.specs.CleanPage.{IsWipeBranch, IsCollectBranch};
+ghost use Rattle.rssd_core.specs.Held.{Keeps, stops};
 ghost use Rattle.rssd_core.specs.Placing.{OpenEnds};
 
-use crate::collecting::collect_page;
+use crate::store::Store;
 use block_state::{Book, State};
 use cell_die::{Die, DieFault};
-use collector::Moves;
+use collector::collect;
 use page_alloc::{NextPage, next};
-use page_codec::{PutFault, Work};
-use sector_map::SectorMap;
+use page_codec::PutFault;
 use striped::Scheme;
 
 /// Makes a block Active. The answer is its first page.
@@ -32,50 +29,70 @@ fn open_block(book: &mut Book, block: u32) -> u32
     block * pages
 }
 
-/// Gets a page at hand.
-///
-/// After `PutFault::Read` records may have been copied that do not count, and after `PutFault::Change` too; over sound cells
-/// every sector is as before.
-pub fn open_page<D: Die, C: Scheme>(
-    die: &mut D,
-    scheme: &mut C,
-    work: &mut Work,
-    map: &mut SectorMap,
-    book: &mut Book,
-    seq: &mut u64,
-    moves: &mut Moves,
-    moved: &mut u64,
-) -> Result<u32, PutFault>
-    requires die { Serves work.old (D.state die.old).shape }
-    requires scheme { ServesScheme work.old (C.meaning scheme.old) }
-    requires sized { IsSized (geometry_of (D.state die.old).shape (C.meaning scheme.old) (length map.old)) }
-    requires spare { length map.old < ((D.state die.old).shape.blocks - 1) * (D.state die.old).shape.pages }
-    requires tables { IsTrue (geometry_of (D.state die.old).shape (C.meaning scheme.old) (length map.old)) (D.state die.old).cells book.old map.old seq.old }
-    requires fresh { seq.old < 2 ^ 62 }
-    requires tally { moved.old < 2 ^ 64 }
-    requires room { (D.state die.old).shape.pages ≤ moves.old }
-    ensures holds { Holds (geometry_of (D.state die.old).shape (C.meaning scheme.old) (length map.old))
-        (store (D.state die.old) map.old book.old seq.old)
-        (store (D.state die.new) map.new book.new seq.new) }
-    ensures ends { OpenEnds (geometry_of (D.state die.old).shape (C.meaning scheme.old) (length map.old)) (C.meaning scheme.old).decoding result
-        (store (D.state die.old) map.old book.old seq.old)
-        (store (D.state die.new) map.new book.new seq.new) moved.old moved.new }
-    ensures same_scheme { C.meaning scheme.new ≡ C.meaning scheme.old }
-    ensures same_work { work.new ≡ work.old }
-    ensures same_sectors { length map.new ≡ length map.old }
-    ensures same_room { moves.new ≡ moves.old }
-{
-    match next(book) {
-        NextPage::Page(page) => Ok(page),
-        NextPage::Take(block) => Ok(open_block(book, block)),
-        NextPage::Wipe(block) => match die.erase(block) {
-            Ok(()) => Ok(open_block(book, block)),
-            Err(DieFault) => Err(PutFault::Change),
-        },
-        NextPage::Collect { victim, spare } => {
-            collect_page(
-                die, scheme, work, map, book, seq, moves, moved, victim, spare,
-            )
+impl<D: Die + Drop, C: Scheme + Drop> Store<D, C> {
+    /// Erases the victim, which has no live record, and opens it.
+    fn wipe(&mut self, block: u32) -> Result<u32, PutFault>
+        requires running { self.old.stopped ≡ false }
+        requires branch { IsWipeBranch self.old.cells.book block }
+        ensures keeps { Keeps C.meaning self.old self.new }
+        ensures ends { OpenEnds self.old.geometry (C.meaning self.old.scheme).decoding result self.old.cells self.new.cells self.old.moved self.new.moved }
+        ensures stopped { self.new.stopped ≡ stops result }
+    {
+        match self.die.erase(block) {
+            Ok(()) => Ok(open_block(&mut self.book, block)),
+            Err(DieFault) => {
+                self.stopped = true;
+                Err(PutFault::Change)
+            }
+        }
+    }
+
+    /// Collects the victim into the Spare. The answer is the page behind the copies.
+    fn collect_page(&mut self, victim: u32, spare: u32) -> Result<u32, PutFault>
+        requires running { self.old.stopped ≡ false }
+        requires fresh { self.old.cells.seq < 2 ^ 62 }
+        requires branch { IsCollectBranch self.old.cells.book victim spare }
+        ensures keeps { Keeps C.meaning self.old self.new }
+        ensures ends { OpenEnds self.old.geometry (C.meaning self.old.scheme).decoding result self.old.cells self.new.cells self.old.moved self.new.moved }
+        ensures stopped { self.new.stopped ≡ stops result }
+    {
+        match collect(
+            &mut self.die,
+            &mut self.scheme,
+            &mut self.work,
+            &mut self.map,
+            &mut self.book,
+            &mut self.moves,
+            &mut self.seq,
+        ) {
+            Ok(copies) => {
+                self.moved = self.moved.saturating_add(u64::from(copies));
+                Ok(spare * self.book.pages() + copies)
+            }
+            Err(PutFault::Read) => Err(PutFault::Read),
+            Err(PutFault::Change) => {
+                self.stopped = true;
+                Err(PutFault::Change)
+            }
+        }
+    }
+
+    /// Gets a page at hand.
+    ///
+    /// After `PutFault::Read` records may have been copied that do not count, and after `PutFault::Change` too; over sound cells
+    /// every sector is as before.
+    pub(crate) fn open_page(&mut self) -> Result<u32, PutFault>
+        requires running { self.old.stopped ≡ false }
+        requires fresh { self.old.cells.seq < 2 ^ 62 }
+        ensures keeps { Keeps C.meaning self.old self.new }
+        ensures ends { OpenEnds self.old.geometry (C.meaning self.old.scheme).decoding result self.old.cells self.new.cells self.old.moved self.new.moved }
+        ensures stopped { self.new.stopped ≡ stops result }
+    {
+        match next(&self.book) {
+            NextPage::Page(page) => Ok(page),
+            NextPage::Take(block) => Ok(open_block(&mut self.book, block)),
+            NextPage::Wipe(block) => self.wipe(block),
+            NextPage::Collect { victim, spare } => self.collect_page(victim, spare),
         }
     }
 }

@@ -1,24 +1,15 @@
 //! The moves of an idle call: records go to the Active block one by one, until so many have gone or none may go.
-ghost use Rattle.std.specs.Prelude.{◌≡◌, ◌≢◌, ◌≤◌, ◌↔◌, true, length, OnErr, IfOk, IsErrOf};
-ghost use Rattle.page_codec.specs.Sizes.{Serves, ServesScheme};
-ghost use Rattle.page_codec.specs.TrueBook.{IsTrue};
-ghost use Rattle.collector.specs.Store.{geometry_of, store};
-ghost use Rattle.rssd_core.specs.Idle.{MovesEnd};
-ghost use Rattle.rssd_core.specs.Outcomes.{Holds, Idled, IdleFault};
-ghost use Rattle.rssd_core.specs.Parts.{device_of};
+ghost use Rattle.std.specs.Prelude.{◌≡◌, ◌<◌, ◌^◌, true, false, Ok, Err};
+ghost use Rattle.cell_die.specs.Counts.{count_sum};
+ghost use Rattle.collector.specs.Moves.{Moved, MoveReadFailed, MoveChangeFailed, NoMoveLeft};
+ghost use Rattle.rssd_core.specs.Held.{Keeps, stops};
+ghost use Rattle.rssd_core.specs.Idle.{MovesEnd, stopped_by};
 
-use crate::device::FtlError;
-use crate::whole::Ftl;
-use block_state::Book;
+use crate::store::Store;
 use cell_die::Die;
 use collector::move_one;
-use page_codec::{PutFault, Work};
-use reuse_pool::recycle_due;
-use sector_map::SectorMap;
+use page_codec::PutFault;
 use striped::Scheme;
-
-/// No move begins with a next record number from here on.
-const SPENT: u64 = 1 << 62;
 
 /// How many records were moved, and what ended the moves where a call of the die failed.
 #[derive(Clone, Copy, Debug, PartialEq, Eq)]
@@ -29,85 +20,71 @@ pub(crate) struct Moves {
     pub fault: Option<PutFault>,
 }
 
-/// Moves at most `n` records, each the first live one of the idle victim. It ends where none fits the Active block's room,
-/// where the record numbers are spent, and where a call of the die fails.
-pub(crate) fn move_records<D: Die, C: Scheme>(
-    die: &mut D,
-    scheme: &mut C,
-    work: &mut Work,
-    map: &mut SectorMap,
-    book: &mut Book,
-    seq: &mut u64,
-    n: u32,
-) -> Moves
-    requires die { Serves work.old (D.state die.old).shape }
-    requires scheme { ServesScheme work.old (C.meaning scheme.old) }
-    requires small_sector { (C.meaning scheme.old).sector_bytes ≤ 512 }
-    requires tables { IsTrue (geometry_of (D.state die.old).shape (C.meaning scheme.old) (length map.old)) (D.state die.old).cells book.old map.old seq.old }
-    ensures ends { MovesEnd (geometry_of (D.state die.old).shape (C.meaning scheme.old) (length map.old)) (C.meaning scheme.old).decoding n result.count result.fault
-        (store (D.state die.old) map.old book.old seq.old)
-        (store (D.state die.new) map.new book.new seq.new) }
-    ensures same_scheme { C.meaning scheme.new ≡ C.meaning scheme.old }
-    ensures same_work { work.new ≡ work.old }
-{
-    for count in 0..n {
-        if *seq >= SPENT {
-            return Moves { count, fault: None };
-        }
-        match move_one(die, scheme, work, map, book, seq) {
-            Ok(true) => {}
-            Ok(false) => return Moves { count, fault: None },
-            Err(fault) => {
-                return Moves {
-                    count,
-                    fault: Some(fault),
-                };
-            }
-        }
-    }
-    Moves {
-        count: n,
-        fault: None,
-    }
-}
-
-impl<D: Die + Drop, C: Scheme + Drop> Ftl<D, C> {
-    /// Moves records to the Active block, at most `n`, each the first live one of the idle victim. The answer is how many, below
-    /// `n` only where no further one may be moved. After a `DieFault` the finished moves stand.
-    pub fn idle(&mut self, n: u32) -> Result<u32, FtlError>
-        ensures holds { Holds (device_of D.state C.meaning self.old).numbers (device_of D.state C.meaning self.old) (device_of D.state C.meaning self.new) }
-        ensures stopped { result ≡ Err FtlError.Stopped ↔ (device_of D.state C.meaning self.old).stopped ≡ true }
-        ensures never { OnErr result ((result ≢ Err FtlError.BadSector) × (result ≢ Err FtlError.Spent)) }
-        ensures idled { IfOk result (λ moves. Idled (device_of D.state C.meaning self.old).numbers n moves (device_of D.state C.meaning self.old) (device_of D.state C.meaning self.new)) }
-        ensures fault { IsErrOf result FtlError.DieFault → IdleFault (device_of D.state C.meaning self.old).numbers n (device_of D.state C.meaning self.old) (device_of D.state C.meaning self.new) }
-        ensures refused { OnErr result (result ≢ Err FtlError.DieFault → device_of D.state C.meaning self.new ≡ device_of D.state C.meaning self.old) }
+impl<D: Die + Drop, C: Scheme + Drop> Store<D, C> {
+    /// Moves the first live record of the idle victim, and answers whether there was one to move.
+    fn move_record(&mut self) -> Result<bool, PutFault>
+        requires running { self.old.stopped ≡ false }
+        requires fresh { self.old.cells.seq < 2 ^ 62 }
+        ensures keeps { Keeps C.meaning self.old self.new }
+        ensures moved { result ≡ Ok true → Moved self.old.geometry (C.meaning self.old.scheme).decoding self.old.cells self.new.cells }
+        ensures rises { result ≡ Ok true → self.new.moved ≡ count_sum self.old.moved 1 }
+        ensures none { result ≡ Ok false → NoMoveLeft self.old.cells.book }
+        ensures none_alone { NoMoveLeft self.old.cells.book → result ≡ Ok false }
+        ensures nothing { result ≡ Ok false → self.new.cells ≡ self.old.cells }
+        ensures read_failed { result ≡ Err PutFault.Read → MoveReadFailed self.old.geometry self.old.cells self.new.cells }
+        ensures change_failed { result ≡ Err PutFault.Change → MoveChangeFailed self.old.geometry (C.meaning self.old.scheme).decoding self.old.cells self.new.cells }
+        ensures same_moved { (result ≡ Ok true → ⊥) → self.new.moved ≡ self.old.moved }
+        ensures stopped { self.new.stopped ≡ stops result }
     {
-        if self.stopped {
-            return Err(FtlError::Stopped);
-        }
-        let moves = move_records(
+        match move_one(
             &mut self.die,
             &mut self.scheme,
             &mut self.work,
             &mut self.map,
             &mut self.book,
             &mut self.seq,
-            n,
-        );
-        self.counts.moved = self.counts.moved.saturating_add(u64::from(moves.count));
-        match moves.fault {
-            None => {
-                recycle_due(&mut self.book, self.reuse_max);
-                Ok(moves.count)
+        ) {
+            Ok(true) => {
+                self.moved = self.moved.saturating_add(1);
+                Ok(true)
             }
-            Some(PutFault::Read) => {
-                recycle_due(&mut self.book, self.reuse_max);
-                Err(FtlError::DieFault)
-            }
-            Some(PutFault::Change) => {
+            Ok(false) => Ok(false),
+            Err(PutFault::Read) => Err(PutFault::Read),
+            Err(PutFault::Change) => {
                 self.stopped = true;
-                Err(FtlError::DieFault)
+                Err(PutFault::Change)
             }
+        }
+    }
+
+    /// Moves at most `n` records, each the first live one of the idle victim. It ends where none fits the Active block's room,
+    /// where the record numbers are spent, and where a call of the die fails.
+    pub(crate) fn move_records(&mut self, n: u32) -> Moves
+        requires running { self.old.stopped ≡ false }
+        requires few_moved { self.old.moved < 2 ^ 64 }
+        ensures keeps { Keeps C.meaning self.old self.new }
+        ensures ends { MovesEnd self.old.geometry (C.meaning self.old.scheme).decoding n result.count result.fault self.old.cells self.new.cells }
+        ensures tally { self.new.moved ≡ count_sum self.old.moved result.count }
+        ensures stopped { self.new.stopped ≡ stopped_by result.fault }
+    {
+        for count in 0..n {
+            if self.is_spent() {
+                return Moves { count, fault: None };
+            }
+            match self.move_record() {
+                Ok(true) => {}
+                Ok(false) => return Moves { count, fault: None },
+                Err(fault) => {
+                    return Moves {
+                        count,
+                        fault: Some(fault),
+                    };
+                }
+            }
+        }
+        Moves {
+            count: n,
+            fault: None,
         }
     }
 }

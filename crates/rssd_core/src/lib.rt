@@ -4,18 +4,16 @@
 
 mod at_hand;
 mod clean_page;
-mod collecting;
-mod contract;
 pub mod device;
 mod idle;
 pub mod mounting;
 mod over;
 mod placing;
 mod row;
-mod trim;
+mod store;
 pub mod whole;
 pub mod worst;
 
-pub use device::{Counts, FtlError, MountError, Placed, Plan, Refused};
+pub use device::{Counts, Device, FtlError, MountError, Placed, Plan, PowerDevice, Refused};
 pub use mounting::mount;
 pub use whole::Ftl;

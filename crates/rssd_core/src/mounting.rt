@@ -5,22 +5,15 @@ ghost use Rattle.rssd_core.specs.Parts.{device_of};
 ghost use Rattle.rssd_core.specs.Mount.{numbers_of, IsServed, Fits, Mounts, Refuses};
 ghost use Rattle.rssd_core.specs.Mounting.{HasRoom, HasDieLimits, HasPlanLimits, why_refused};
 
-use crate::device::{Counts, MountError, Plan, Refused};
-use crate::whole::Ftl;
+use crate::device::{MountError, Plan, Refused};
+use crate::store::Store;
+use crate::whole::{Ftl, Tallies};
 use cell_die::{Die, Shape};
 use collector::Moves;
 use mount_scan::{ScanRefusal, Tables, scan_all};
 use page_codec::Work;
 use std::alloc::{AllocError, Global};
 use striped::Scheme;
-
-/// The tallies of a device that answered no write and moved no record yet.
-const NO_COUNTS: Counts = Counts {
-    first: 0,
-    second: 0,
-    declined: 0,
-    moved: 0,
-};
 
 /// All memory of a device: the buffers of puts and gets, the tables, and room for the moves of a collection.
 #[derive(Drop)]
@@ -125,7 +118,7 @@ fn mount_in<D: Die + Drop, C: Scheme + Drop>(
 ) -> Result<Ftl<D, C>, Refused<D, C>>
     requires fits { Fits (D.state die).shape (C.meaning scheme) plan }
     requires room { HasRoom (D.state die).shape (C.meaning scheme) plan.sectors room }
-    ensures mounted { IfOk result (λ new. Mounts (numbers_of (D.state die).shape (C.meaning scheme) plan) (D.state die) (device_of D.state C.meaning new)) }
+    ensures mounted { IfOk result (λ new. Mounts (numbers_of (D.state die).shape (C.meaning scheme) plan) (D.state die) (device_of C.meaning new)) }
     ensures not_shape { IfErr result (λ refused. refused.why ≢ MountError.Shape) }
     ensures refused { IfErr result (λ refused. Refuses (numbers_of (D.state die).shape (C.meaning scheme) plan) (D.state die) (D.state refused.die) refused.why) }
     ensures scheme { IfErr result (λ refused. C.meaning refused.scheme ≡ C.meaning scheme) }
@@ -137,16 +130,19 @@ fn mount_in<D: Die + Drop, C: Scheme + Drop>(
     } = room;
     match scan_all(&mut die, &mut work, &mut tables, plan.reuse_max) {
         Ok(()) => Ok(Ftl {
-            die,
-            scheme,
-            work,
-            map: tables.map,
-            book: tables.book,
-            seq: tables.seq,
-            moves,
+            store: Store {
+                die,
+                scheme,
+                work,
+                map: tables.map,
+                book: tables.book,
+                seq: tables.seq,
+                moves,
+                moved: 0,
+                stopped: false,
+            },
             reuse_max: plan.reuse_max,
-            counts: NO_COUNTS,
-            stopped: false,
+            tallies: Tallies::NONE,
         }),
         Err(why) => Err(Refused {
             die,
@@ -165,7 +161,7 @@ pub fn mount<D: Die + Drop, C: Scheme + Drop>(
     scheme: C,
     plan: Plan,
 ) -> Result<Ftl<D, C>, Refused<D, C>>
-    ensures mounted { IfOk result (λ new. Mounts (numbers_of (D.state die).shape (C.meaning scheme) plan) (D.state die) (device_of D.state C.meaning new)) }
+    ensures mounted { IfOk result (λ new. Mounts (numbers_of (D.state die).shape (C.meaning scheme) plan) (D.state die) (device_of C.meaning new)) }
     ensures fits { OnOk result (Fits (D.state die).shape (C.meaning scheme) plan) }
     ensures shape { IfErr result (λ refused. refused.why ≡ MountError.Shape ↔ (¬ Fits (D.state die).shape (C.meaning scheme) plan)) }
     ensures refused { IfErr result (λ refused. Refuses (numbers_of (D.state die).shape (C.meaning scheme) plan) (D.state die) (D.state refused.die) refused.why) }

@@ -1,0 +1,10 @@
+-- Nothing moves but what the die tells.
+use Rattle.cell_die.specs.Power.{told, with_read_failure}
+use Rattle.rssd_core.proofs.DeviceLaws.{device_told, still_settled}
+use Rattle.rssd_core.proofs.whole.FtlPowerDevice.fail_read.Goals as goal
+
+pub invariant_of-self : goal.invariant_of-self
+invariant_of-self g c = still_settled (told (with_read_failure c.args.n)) c.self.inside.store c.self.inside.reuse_max c.fail_read.ensures c.self.invariant
+
+pub returns : goal.returns
+returns g c = device_told g.C.Scheme.meaning (told (with_read_failure c.args.n)) c.self.view_is c.fail_read.ensures
