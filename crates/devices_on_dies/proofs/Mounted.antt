@@ -11,7 +11,8 @@ use Rattle.mount_scan.specs.Scanned.{geometry_of as scanned_geometry, AreMounted
 use Rattle.collector.specs.Store.{geometry_of}
 use Rattle.collector.proofs.Named.{live_map_long}
 
-pub scanned_true : (old new : DieState) (meaning : Meaning) (sizes : Sizes) (tables : Tables) (sectors few pages : ℕ) → ServesScheme sizes meaning → AreMounted (scanned_geometry old.shape sizes sectors) few old.cells tables
+pub scanned_true : (old new : DieState) (meaning : Meaning) (sizes : Sizes) (tables : Tables) (sectors few pages : ℕ) → ServesScheme sizes meaning
+    → AreMounted (scanned_geometry old.shape sizes sectors) few old.cells tables
     → Reads pages old new → IsTrue (geometry_of new.shape meaning (length tables.map)) new.cells tables.book tables.map tables.seq
 scanned_true old new meaning sizes tables sectors few pages scheme mounted reads =
     subst (λ (cells : List (List ℕ)). IsTrue (geometry_of new.shape meaning (length tables.map)) cells tables.book tables.map tables.seq) (sym reads.same_cells.cells)

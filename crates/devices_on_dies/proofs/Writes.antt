@@ -48,7 +48,23 @@ pub record MayWrite (sizes : Sizes) (meaning : Meaning) (die : DieState) (book :
   pub small : sector < 2 ^ 32
   pub page_is : page ≡ block * book.pages + fill
 
-module _ (sizes : Sizes) (meaning : Meaning) (die : DieState) (book : BookValue) (table : List (Option Entry)) (seq block fill sector page : ℕ) (m : MayWrite sizes meaning die book table seq block fill sector page) where
+pub may_write : {sizes : Sizes} {meaning : Meaning} {die : DieState} {book : BookValue} {table : List (Option Entry)} {seq : ℕ} (block fill sector pages : ℕ) → Serves sizes die.shape
+    → ServesScheme sizes meaning → IsShaped die → IsTrue (geometry_of die.shape meaning (length table)) die.cells book table seq → seq < 2 ^ 62 → state_at book block ≡ Active fill
+    → sector < length table → sector < 2 ^ 32 → pages ≡ book.pages → MayWrite sizes meaning die book table seq block fill sector (block * pages + fill)
+may_write block fill sector pages serves scheme shaped tables fresh active sector_in small pages_are = record {
+  serves = serves;
+  scheme = scheme;
+  shaped = shaped;
+  tables = tables;
+  fresh = fresh;
+  active = active;
+  sector_in = sector_in;
+  small = small;
+  page_is = ap (λ (n : ℕ). block * n + fill) pages_are;
+}
+
+module _ {sizes : Sizes} {meaning : Meaning} {die : DieState} {book : BookValue} {table : List (Option Entry)} {seq block fill sector page : ℕ}
+    (m : MayWrite sizes meaning die book table seq block fill sector page) where
   at_page : page ≡ block * die.shape.pages + fill
   at_page = m.page_is ∙ ap (λ (n : ℕ). block * n + fill) m.tables.sizes.pages
 
@@ -63,12 +79,14 @@ module _ (sizes : Sizes) (meaning : Meaning) (die : DieState) (book : BookValue)
 
   module _ {Content : (ℕ → List ℕ) → Type 0} (new : DieState) (p : Puts Content 1 (first_slot page) (written sector seq) die new) (kept : Kept die new) (shaped : IsShaped new) where
     puts_next : PutsNext (geometry_of die.shape meaning (length table)) block fill (written sector seq) die.cells new.cells
-    puts_next = next_put (geometry_of die.shape meaning (length table)) block fill (written sector seq) die new book table seq (subst (λ (q : ℕ). Puts Content 1 (first_slot q) (written sector seq) die new) at_page p)
+    puts_next = next_put (geometry_of die.shape meaning (length table)) block fill (written sector seq) die new book table seq
+        (subst (λ (q : ℕ). Puts Content 1 (first_slot q) (written sector seq) die new) at_page p)
         (geometry_shape sizes die.shape meaning (length table) m.serves m.scheme) kept.shape m.shaped shaped m.tables m.active m.fresh refl
         (record { sector = m.small; seq = omega (arith, m.fresh); least_kind = omega arith; greatest_kind = omega arith }) m.sector_in refl
 
     pub may_record : MayRecord book table sector (Held (record { page = page; slot = 0 }))
-    may_record = next_may_record (geometry_of die.shape meaning (length table)) block fill (written sector seq) die.cells new.cells puts_next book table seq m.tables m.active refl (Held (record { page = page; slot = 0 }))
+    may_record = next_may_record (geometry_of die.shape meaning (length table)) block fill (written sector seq) die.cells new.cells puts_next book table seq m.tables m.active refl
+        (Held (record { page = page; slot = 0 }))
         (λ i. record { page = at_page i; slot = 0 })
 
     pub written_tables : (gated : is_gated new (first_slot page) ≡ true) (meaning' : Meaning) (book' : BookValue) (table' : List (Option Entry)) → meaning' ≡ meaning
@@ -77,7 +95,8 @@ module _ (sizes : Sizes) (meaning : Meaning) (die : DieState) (book : BookValue)
         → IsTrue (geometry_of new.shape meaning' (length table')) new.cells book' table' (seq + 1)
     written_tables gated meaning' book' table' same map_is book_is =
         subst (λ (g : Geometry). IsTrue g new.cells book' table' (seq + 1)) (sym (λ i. geometry_of (kept.shape i) (same i) (long i)))
-        (next_recorded (geometry_of die.shape meaning (length table)) meaning.decoding block fill (written sector seq) (store die table book seq) (store new table' book' (seq + 1)) (Held (record { page = page; slot = 0 }))
+        (next_recorded (geometry_of die.shape meaning (length table)) meaning.decoding block fill (written sector seq) (store die table book seq) (store new table' book' (seq + 1))
+        (Held (record { page = page; slot = 0 }))
         puts_next (gate_is ∙ gated) m.tables m.active refl (λ i. record { page = at_page i; slot = 0 }) (λ i. Some (Held (record { page = sym at_page i; slot = 0 }))) map_is book_is refl).tables
       where
         long : length table' ≡ length table
@@ -102,12 +121,14 @@ no_live (suc (suc zero)) = refl
 no_live (suc (suc (suc n))) = refl
 
 -- block 0 is Active, and block 2 the Spare
-pub begun : (g : Geometry) (cells : List (List ℕ)) (book : BookValue) → IsValid book → book.states ≡ (Active 0 ∷ Clean ∷ Spare true ∷ []) → book.live ≡ (0 ∷ 0 ∷ 0 ∷ []) → book.pages ≡ 2 → book.units ≡ 2 → book.generations ≡ 2
+pub begun : (g : Geometry) (cells : List (List ℕ)) (book : BookValue) → IsValid book → book.states ≡ (Active 0 ∷ Clean ∷ Spare true ∷ []) → book.live ≡ (0 ∷ 0 ∷ 0 ∷ []) → book.pages ≡ 2
+    → book.units ≡ 2 → book.generations ≡ 2
     → g.blocks ≡ 3 → g.pages ≡ 2 → g.span ≡ 1 → g.generations ≡ 2 → ((page : ℕ) → is_blank (page_at cells page) ≡ true) → IsTrue g cells book (replicate g.sectors None) 1
 begun g cells book valid states live pages units' generations blocks g_pages g_span g_generations blank =
     blank_true g cells blank book valid
     (record { blocks = ap (length {A = State}) states ∙ sym blocks; pages = pages ∙ sym g_pages; units = units' ∙ sym (λ i. g_pages i / g_span i); generations = generations ∙ sym g_generations })
-    (one_spare_of_three book (ap (length {A = State}) states) (ap (λ (s : List State). is_spare (slice_index_or s 0 Clean)) states) (ap (λ (s : List State). is_spare (slice_index_or s 1 Clean)) states) (ap (λ (s : List State). is_spare (slice_index_or s 2 Clean)) states))
+    (one_spare_of_three book (ap (length {A = State}) states) (ap (λ (s : List State). is_spare (slice_index_or s 0 Clean)) states)
+    (ap (λ (s : List State). is_spare (slice_index_or s 1 Clean)) states) (ap (λ (s : List State). is_spare (slice_index_or s 2 Clean)) states))
     (omega (arith, g_pages))
     (λ b. ap (λ (xs : List ℕ). slice_index xs b) live ∙ no_live b)
     (λ b within. subst (λ (s : List State). MayBegin g cells blank (slice_index_or s b Clean)) (sym states) (may b (omega (arith, blocks))))
@@ -119,9 +140,11 @@ begun g cells book valid states live pages units' generations blocks g_pages g_s
     may (suc (suc (suc n))) h = absurd (omega arith)
 
 -- a map without entries, beside such a book
-pub begun_at : (g : Geometry) (cells : List (List ℕ)) (book : BookValue) (table : List (Option Entry)) → g.blocks ≡ 3 → g.pages ≡ 2 → g.span ≡ 1 → g.generations ≡ 2 → g.sectors ≡ length table → table ≡ replicate 2 None
+pub begun_at : (g : Geometry) (cells : List (List ℕ)) (book : BookValue) (table : List (Option Entry)) → g.blocks ≡ 3 → g.pages ≡ 2 → g.span ≡ 1 → g.generations ≡ 2 → g.sectors ≡ length table
+    → table ≡ replicate 2 None
     → ((page : ℕ) → is_blank (page_at cells page) ≡ true)
-    → ((h : Geometry) (rows : List (List ℕ)) → h.blocks ≡ 3 → h.pages ≡ 2 → h.span ≡ 1 → h.generations ≡ 2 → ((page : ℕ) → is_blank (page_at rows page) ≡ true) → IsTrue h rows book (replicate h.sectors None) 1)
+    → ((h : Geometry) (rows : List (List ℕ)) → h.blocks ≡ 3 → h.pages ≡ 2 → h.span ≡ 1 → h.generations ≡ 2 → ((page : ℕ) → is_blank (page_at rows page) ≡ true)
+    → IsTrue h rows book (replicate h.sectors None) 1)
     → IsTrue g cells book table 1
 begun_at g cells book table blocks pages span generations sectors map blank new =
     let long : g.sectors ≡ 2 = sectors ∙ ap (length {A = Option Entry}) map in

@@ -45,23 +45,16 @@ request_again r h =
 
 -- ---- replies
 
-errno_again : (error : Errno) → errno_of (errno_number error) ≡ Some error
+errno_again : (error : Errno) → (errno_of (errno_number error) ≡ Some error) × (errno_number error < 2 ^ 32)
 unfolding errno_of errno_number
-errno_again Done = refl
-errno_again InputOutput = refl
-errno_again Outside = refl
-errno_again NoSpace = refl
-
-errno_small : (error : Errno) → errno_number error < 2 ^ 32
-unfolding errno_number
-errno_small Done = omega arith
-errno_small InputOutput = omega arith
-errno_small Outside = omega arith
-errno_small NoSpace = omega arith
+errno_again Done = (refl, omega arith)
+errno_again InputOutput = (refl, omega arith)
+errno_again Outside = (refl, omega arith)
+errno_again NoSpace = (refl, omega arith)
 
 error_again : (r : ReplyHead) → word_at 4 (reply_bytes r) ≡ errno_number r.error
 unfolding word_at reply_bytes word long
-error_again r = big_number-reads_back 4 (errno_number r.error) [] (errno_small r.error)
+error_again r = big_number-reads_back 4 (errno_number r.error) [] (errno_again r.error).1
 
 reply_handle_again : (r : ReplyHead) → r.handle < 2 ^ 64 → long_at 8 (reply_bytes r) ≡ r.handle
 unfolding long_at reply_bytes word long
@@ -69,7 +62,7 @@ reply_handle_again r h = big_number-reads_back 8 r.handle [] h
 
 pub reply_again : (r : ReplyHead) → r.handle < 2 ^ 64 → reply_in (reply_bytes r) ≡ Some r
 unfolding reply_in
-reply_again r h = rw (error_again r, errno_again r.error, reply_handle_again r h) refl
+reply_again r h = rw (error_again r, (errno_again r.error).0, reply_handle_again r h) refl
 
 -- ---- options
 
@@ -87,29 +80,21 @@ option_again o h = rw (kind_again o h.number, h.kind, option_length_again o h.le
 
 -- ---- answers
 
-answer_number_again : (answer : Answer) → answer_of (answer_number answer) ≡ Some answer
+number_again : (answer : Answer) → (answer_of (answer_number answer) ≡ Some answer) × (answer_number answer < 2 ^ 32)
 unfolding answer_of answer_number
-answer_number_again Acknowledged = refl
-answer_number_again Named = refl
-answer_number_again Told = refl
-answer_number_again Unsupported = refl
-answer_number_again Invalid = refl
-
-answer_small : (answer : Answer) → answer_number answer < 2 ^ 32
-unfolding answer_number
-answer_small Acknowledged = omega arith
-answer_small Named = omega arith
-answer_small Told = omega arith
-answer_small Unsupported = omega arith
-answer_small Invalid = omega arith
+number_again Acknowledged = (refl, omega arith)
+number_again Named = (refl, omega arith)
+number_again Told = (refl, omega arith)
+number_again Unsupported = (refl, omega arith)
+number_again Invalid = (refl, omega arith)
 
 answer_kind_again : (a : AnswerHead) → kind_number a.kind < 2 ^ 32 → word_at 8 (answer_bytes a) ≡ kind_number a.kind
 unfolding word_at answer_bytes word long
 answer_kind_again a h = big_number-reads_back 4 (kind_number a.kind) [] h
 
-answer_again_number : (a : AnswerHead) → word_at 12 (answer_bytes a) ≡ answer_number a.answer
+answer_number_again : (a : AnswerHead) → word_at 12 (answer_bytes a) ≡ answer_number a.answer
 unfolding word_at answer_bytes word long
-answer_again_number a = big_number-reads_back 4 (answer_number a.answer) [] (answer_small a.answer)
+answer_number_again a = big_number-reads_back 4 (answer_number a.answer) [] (number_again a.answer).1
 
 answer_length_again : (a : AnswerHead) → a.length < 2 ^ 32 → word_at 16 (answer_bytes a) ≡ a.length
 unfolding word_at answer_bytes word long
@@ -117,4 +102,4 @@ answer_length_again a h = big_number-reads_back 4 a.length [] h
 
 pub answer_again : (a : AnswerHead) → IsAnswer a → answer_in (answer_bytes a) ≡ Some a
 unfolding answer_in
-answer_again a h = rw (answer_kind_again a h.number, h.kind, answer_again_number a, answer_number_again a.answer, answer_length_again a h.length) refl
+answer_again a h = rw (answer_kind_again a h.number, h.kind, answer_number_again a, (number_again a.answer).0, answer_length_again a h.length) refl

@@ -29,7 +29,8 @@ fails_short kind bytes short a = record { fits = a.fits; is_fit = (λ yes. (shor
 -- ---- options
 
 -- a head was taken, and the bytes behind it
-abbrev pub takes_option : {from mid left : List Event} (head : OptionHead) (bytes : List ℕ) → IsOption head → Takes from mid (option_bytes head) → length bytes ≡ head.length → Takes mid left bytes → TakesOption from left
+abbrev pub takes_option : {from mid left : List Event} (head : OptionHead) (bytes : List ℕ) → IsOption head → Takes from mid (option_bytes head) → length bytes ≡ head.length → Takes mid left bytes
+    → TakesOption from left
 takes_option head bytes spelled first long second = record { head = head; spelled = spelled; bytes = bytes; long = long; taken = takes_trans first second }
 
 -- ---- ends
@@ -79,7 +80,8 @@ long_unfit : (fits : Bool) (kind : OptionKind) (bytes : List ℕ) → fits ≡ f
 long_unfit true kind bytes e long = absurd (let no : ⊥ = cc in no)
 long_unfit false kind bytes e long = (λ yes. absurd (let no : ⊥ = cc in no), λ fit. absurd (omega (arith, fit.0)))
 
-pub long_answered : (size flags : ℕ) (r : Result Next Ended) {from left : List Event} (to given : List Event) (option : TakesOption from left) → 1048592 < length option.bytes → IfOk r (λ next. next ≡ Another)
+pub long_answered : (size flags : ℕ) (r : Result Next Ended) {from left : List Event} (to given : List Event) (option : TakesOption from left) → 1048592 < length option.bytes
+    → IfOk r (λ next. next ≡ Another)
     → OnOk r (Gives (said option.head.kind Invalid []) to given) → IfOk r (λ next. AnswersOption size flags next from left to given)
 long_answered size flags (Ok next) to given option long is gave = record {
   option = option;
@@ -87,7 +89,8 @@ long_answered size flags (Ok next) to given option long is gave = record {
 }
 long_answered size flags (Err ended) to given option long is gave = tt
 
-pub long_fails : (size flags : ℕ) (r : Result Next Ended) {from left : List Event} (to given : List Event) (option : TakesOption from left) → 1048592 < length option.bytes → IfErr r (λ ended. ended ≡ WriteFault)
+pub long_fails : (size flags : ℕ) (r : Result Next Ended) {from left : List Event} (to given : List Event) (option : TakesOption from left) → 1048592 < length option.bytes
+    → IfErr r (λ ended. ended ≡ WriteFault)
     → IfErr r (λ ended. StopsAt (said option.head.kind Invalid []) to given) → IfErr r (λ ended. NoAnswer size flags ended from left to given)
 long_fails size flags (Ok next) to given option long fault stops = tt
 long_fails size flags (Err ended) {from} {left} to given option long fault stops = fails_answer size flags ended from left to given fault (record {
@@ -101,8 +104,10 @@ pub option_answered : (size flags : ℕ) (r : Result Next Ended) {from left : Li
 option_answered size flags (Ok next) to given option short answered = record { option = option; answered = answered_short option.head.kind option.bytes short answered }
 option_answered size flags (Err ended) to given option short answered = tt
 
-pub option_fails : (size flags : ℕ) (r : Result Next Ended) {from left : List Event} (to given : List Event) (option : TakesOption from left) → length option.bytes ≤ 1048592 → IfErr r (λ ended. ended ≡ WriteFault)
+pub option_fails : (size flags : ℕ) (r : Result Next Ended) {from left : List Event} (to given : List Event) (option : TakesOption from left) → length option.bytes ≤ 1048592
+    → IfErr r (λ ended. ended ≡ WriteFault)
     → IfErr r (λ ended. AnswerFails (MayHave option.head.kind option.bytes) option.head.kind (told_to size flags option.head.kind) to given)
     → IfErr r (λ ended. NoAnswer size flags ended from left to given)
 option_fails size flags (Ok next) to given option short fault fails = tt
-option_fails size flags (Err ended) {from} {left} to given option short fault fails = fails_answer size flags ended from left to given fault (record { option = option; fails = fails_short option.head.kind option.bytes short fails })
+option_fails size flags (Err ended) {from} {left} to given option short fault fails =
+    fails_answer size flags ended from left to given fault (record { option = option; fails = fails_short option.head.kind option.bytes short fails })

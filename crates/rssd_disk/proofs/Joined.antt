@@ -68,7 +68,8 @@ put-put place first second all fits =
   where
     at : (place + length first + length second ≤ length all) → length (first ++ second) ≡ length first + length second → length (put place first all) ≡ length all
         → length (put (place + length first) second (put place first all)) ≡ length all → length (put place (first ++ second) all) ≡ length all
-        → (k : ℕ) → k < length (put (place + length first) second (put place first all)) → get_or (put (place + length first) second (put place first all)) k 0 ≡ get_or (put place (first ++ second) all) k 0
+        → (k : ℕ) → k < length (put (place + length first) second (put place first all))
+        → get_or (put (place + length first) second (put place first all)) k 0 ≡ get_or (put place (first ++ second) all) k 0
     at fits both mid left right k inside = elim (cases_lt k place) [
       | inl before ↦
           put-before (place + length first) second (put place first all) k (omega arith) (omega arith)
@@ -135,7 +136,8 @@ joined_set size count sector start bytes row rows some inside here fits puts =
     let old_length : length (joined size count rows) ≡ count * size = length-joined size count rows in
     let room : sector * size + size ≤ count * size = row_end size sector count inside in
     let new_length : length (joined size count (set rows sector row)) ≡ count * size = length-joined size count (set rows sector row) in
-    let put_length : length (put (sector * size + start) bytes (joined size count rows)) ≡ count * size = length-put (sector * size + start) bytes (joined size count rows) (omega arith) ∙ old_length in
+    let put_length : length (put (sector * size + start) bytes (joined size count rows)) ≡ count * size = length-put (sector * size + start) bytes (joined size count rows) (omega arith)
+    ∙ old_length in
     ext_get_or 0 _ _ (new_length ∙ sym put_length) (λ p h. at old_length room p (omega arith))
   where
     other : (p : ℕ) → p / size ≢ sector → byte_at size (set rows sector row) p ≡ byte_at size rows p

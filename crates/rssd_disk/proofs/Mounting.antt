@@ -24,12 +24,14 @@ use Rattle.rssd_disk.proofs.PlainSessions.{Good, stepped, sectors_told, size_tol
 
 -- ---- a mount
 
-pub mounts_planned : (shape : Shape) (meaning : Meaning) (plan : Plan) (die : DieState) (new : DeviceValue) → shape ≡ die.shape → Mounts (numbers_of shape meaning plan) die new → new.numbers ≡ numbers_held plan (holding_of new)
+pub mounts_planned : (shape : Shape) (meaning : Meaning) (plan : Plan) (die : DieState) (new : DeviceValue) → shape ≡ die.shape → Mounts (numbers_of shape meaning plan) die new
+    → new.numbers ≡ numbers_held plan (holding_of new)
 mounts_planned shape meaning plan die new own m =
     let means : new.numbers.meaning ≡ meaning = ap (λ (d : Numbers). d.meaning) m.numbers in
     m.numbers ∙ sym (ap (λ s. numbers_of s new.numbers.meaning plan) (m.kept.shape ∙ sym own) ∙ ap (λ n. numbers_of shape n plan) means)
 
-pub mounts_told : (shape : Shape) (meaning : Meaning) (plan : Plan) (die : DieState) (new : DeviceValue) → Mounts (numbers_of shape meaning plan) die new → disk_size new.numbers ≡ plan.sectors * new.numbers.meaning.sector_bytes
+pub mounts_told : (shape : Shape) (meaning : Meaning) (plan : Plan) (die : DieState) (new : DeviceValue) → Mounts (numbers_of shape meaning plan) die new
+    → disk_size new.numbers ≡ plan.sectors * new.numbers.meaning.sector_bytes
 mounts_told shape meaning plan die new m = ap disk_size m.numbers ∙ sym (ap (λ (d : Numbers). plan.sectors * d.meaning.sector_bytes) m.numbers)
 
 pub mounts_bytes : (shape : Shape) (meaning : Meaning) (plan : Plan) (die : DieState) (new : DeviceValue) → shape ≡ die.shape → Mounts (numbers_of shape meaning plan) die new
@@ -48,7 +50,8 @@ fits_disk shape meaning plan die new fits m =
     subst IsDisk (sym m.numbers) sizes
 
 -- a device that was mounted is a disk
-pub mounts_disk : {D C F : Type 0} (state : D → DieState) (meaning : C → Meaning) (device : F → DeviceValue) (shape : Shape) (means : Meaning) (die : DieState) (disk : DeviceDisk D C F) (ftl : F) → disk.mounted ≡ Some ftl → shape ≡ die.shape
+pub mounts_disk : {D C F : Type 0} (state : D → DieState) (meaning : C → Meaning) (device : F → DeviceValue) (shape : Shape) (means : Meaning) (die : DieState) (disk : DeviceDisk D C F) (ftl : F)
+    → disk.mounted ≡ Some ftl → shape ≡ die.shape
     → Fits shape means disk.plan → Mounts (numbers_of shape means disk.plan) die (device ftl) → disk.size ≡ disk_size (device ftl).numbers → IsDeviceDisk state meaning device disk
 mounts_disk {D} {C} {F} state meaning device shape means die disk ftl is own fits m sized =
     let Held : Option F → Type 0 = λ x. IsHeld device x disk.closed in
@@ -73,7 +76,8 @@ refuses_same d die new (errors.Shape) h = record { shape = ap (λ (x : DieState)
 refuses_same d die new (errors.DieFault) h = record { shape = h.kept.shape; cells = h.cells.cells }
 refuses_same d die new (errors.NoSpare) h = record { shape = h.kept.shape; cells = h.cells.cells }
 
-pub refused_same : {D C F : Type 0} (state : D → DieState) (meaning : C → Meaning) (device : F → DeviceValue) (mounted : Option F) (closed : Option (D × C)) (held left : D × C) (d : Numbers) (why : MountError)
+pub refused_same : {D C F : Type 0} (state : D → DieState) (meaning : C → Meaning) (device : F → DeviceValue) (mounted : Option F) (closed : Option (D × C)) (held left : D × C) (d : Numbers)
+    (why : MountError)
     → Gives state meaning device mounted closed held → Refuses d (state held.0) (state left.0) why → meaning left.1 ≡ meaning held.1
     → SameHeld (held_by state meaning device mounted closed) (held_by state meaning device None (Some left))
 refused_same state meaning device (Some ftl) closed held left d why gives refuses means =
@@ -101,22 +105,26 @@ told_after plan size sector_bytes (Some h) sized sectors = sized ∙ ap (λ n. p
 told_after plan size sector_bytes None sized sectors = absurd sectors
 
 -- a disk that answered can answer again
-pub answers_again : {D C F : Type 0} (state : D → DieState) (meaning : C → Meaning) (device : F → DeviceValue) (old new : DeviceDisk D C F) (r : Request) (before after : List ℕ) (reply : Errno) → IsDeviceDisk state meaning device old
+pub answers_again : {D C F : Type 0} (state : D → DieState) (meaning : C → Meaning) (device : F → DeviceValue) (old new : DeviceDisk D C F) (r : Request) (before after : List ℕ) (reply : Errno)
+    → IsDeviceDisk state meaning device old
     → IsHeld device new.mounted new.closed → DeviceAnswers state meaning device old new r before after reply → IsDeviceDisk state meaning device new
 answers_again state meaning device old new r before after reply is held answers =
     let holds : Option Holding = holding state meaning device old in
     let sized : old.size ≡ old.plan.sectors * sector_bytes_on holds = size_told old.plan old.size holds is.told in
-    let good : Good state meaning device old.plan (sector_bytes_on holds) ⊥ old = record { plan_is = refl; planned = is.planned; sectors = sectors_told old.plan old.size holds is.told; is_sound = λ no. absurd no } in
+    let good : Good state meaning device old.plan (sector_bytes_on holds) ⊥ old
+    = record { plan_is = refl; planned = is.planned; sectors = sectors_told old.plan old.size holds is.told; is_sound = λ no. absurd no } in
     let s : Stepped device old.plan old.size (sector_bytes_on holds) ⊥ holds (holding state meaning device new) new.mounted r before after reply
     = stepped state meaning device old.plan old.size (sector_bytes_on holds) ⊥ sized old new r before after reply good answers in
     record {
       held = held;
       planned = subst (λ (p : Plan). IsPlanned device p new.mounted) (sym answers.plan) s.planned;
-      told = told_after new.plan new.size (sector_bytes_on holds) (holding state meaning device new) (answers.size ∙ sized ∙ ap (λ (p : Plan). p.sectors * sector_bytes_on holds) (sym answers.plan)) s.sectors;
+      told = told_after new.plan new.size (sector_bytes_on holds) (holding state meaning device new) (answers.size ∙ sized ∙ ap (λ (p : Plan). p.sectors * sector_bytes_on holds) (sym answers.plan))
+          s.sectors;
     }
 
 -- a request was asked of the device that is ready
-pub asks_answered : {D C F : Type 0} (state : D → DieState) (meaning : C → Meaning) (device : F → DeviceValue) (old ready : DeviceDisk D C F) (ftl left : F) (r : Request) (before after : List ℕ) (reply : Errno)
+pub asks_answered : {D C F : Type 0} (state : D → DieState) (meaning : C → Meaning) (device : F → DeviceValue) (old ready : DeviceDisk D C F) (ftl left : F) (r : Request) (before after : List ℕ)
+    (reply : Errno)
     → ready.plan ≡ old.plan → ready.size ≡ old.size → ready.mounted ≡ Some ftl → IsReady device ready.mounted ready.closed
     → IfSome ready.mounted (λ f. ComesFrom state meaning device old.plan old.mounted old.closed (device f)) → Answers (device ftl).numbers r before after (device ftl) (device left) reply
     → DeviceAnswers state meaning device old (record ready { mounted = Some left }) r before after reply
@@ -135,12 +143,15 @@ asks_answered state meaning device old ready ftl left r before after reply plan 
     }
 
 -- no device is ready, and none is asked
-none_held : {D C F : Type 0} (state : D → DieState) (meaning : C → Meaning) (device : F → DeviceValue) (plan : Plan) (mounted : Option F) (closed : Option (D × C)) (now : Option F) (left : Option (D × C)) (r : Request) (bytes : List ℕ) → now ≡ None
-    → IfNone now (SameHeld (held_by state meaning device mounted closed) (held_by state meaning device now left)) → AnswersHeld state meaning device plan mounted closed now left r bytes bytes InputOutput
+none_held : {D C F : Type 0} (state : D → DieState) (meaning : C → Meaning) (device : F → DeviceValue) (plan : Plan) (mounted : Option F) (closed : Option (D × C)) (now : Option F)
+    (left : Option (D × C)) (r : Request) (bytes : List ℕ) → now ≡ None
+    → IfNone now (SameHeld (held_by state meaning device mounted closed) (held_by state meaning device now left))
+    → AnswersHeld state meaning device plan mounted closed now left r bytes bytes InputOutput
 none_held state meaning device plan mounted closed None left r bytes is same = record { reply_is = refl; data_are = refl; same = same }
 none_held state meaning device plan mounted closed (Some ftl) left r bytes is same = absurd (let no : ⊥ = cc in no)
 
-pub none_answered : {D C F : Type 0} (state : D → DieState) (meaning : C → Meaning) (device : F → DeviceValue) (old ready : DeviceDisk D C F) (r : Request) (bytes : List ℕ) → ready.plan ≡ old.plan → ready.size ≡ old.size → ready.mounted ≡ None
+pub none_answered : {D C F : Type 0} (state : D → DieState) (meaning : C → Meaning) (device : F → DeviceValue) (old ready : DeviceDisk D C F) (r : Request) (bytes : List ℕ) → ready.plan ≡ old.plan
+    → ready.size ≡ old.size → ready.mounted ≡ None
     → IfNone ready.mounted (SameHeld (holding state meaning device old) (holding state meaning device ready)) → DeviceAnswers state meaning device old ready r bytes bytes InputOutput
 none_answered state meaning device old ready r bytes plan size is same =
     record { plan = plan; size = size; answered = none_held state meaning device old.plan old.mounted old.closed ready.mounted ready.closed r bytes is same }

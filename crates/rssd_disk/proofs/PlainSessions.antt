@@ -27,7 +27,8 @@ pub record Follows {K L : Type 0} (answers : Answering K) (plain : Answering L) 
   pub step : (old new : K) (r : Request) (before after : List ℕ) (reply : Errno) → Good old → answers old new r before after reply → plain (f old) (f new) r before after reply
   pub good : (old new : K) (r : Request) (before after : List ℕ) (reply : Errno) → Good old → answers old new r before after reply → Good new
 
-abbrev pub asks_map : {K L : Type 0} {answers : Answering K} {plain : Answering L} {f : K → L} {Good : K → Type 0} {old new : K} {from left : List Event} → Follows answers plain f Good → Good old → Asks answers old new from left → Asks plain (f old) (f new) from left
+abbrev pub asks_map : {K L : Type 0} {answers : Answering K} {plain : Answering L} {f : K → L} {Good : K → Type 0} {old new : K} {from left : List Event} → Follows answers plain f Good → Good old
+    → Asks answers old new from left → Asks plain (f old) (f new) from left
 asks_map {K} {L} {answers} {plain} {f} {Good} {old} {new} {from} {left} follows good a = record {
   request = a.request;
   spelled = a.spelled;
@@ -41,23 +42,27 @@ asks_map {K} {L} {answers} {plain} {f} {Good} {old} {new} {from} {left} follows 
   asked = follows.step old new a.request a.before a.after a.reply good a.asked;
 }
 
-one_map : {K L : Type 0} {answers : Answering K} {power : K → Option Bool} {plain : Answering L} {f : K → L} {Good : K → Type 0} {old new : K} {from left to given : List Event} → Follows answers plain f Good → Good old
+one_map : {K L : Type 0} {answers : Answering K} {power : K → Option Bool} {plain : Answering L} {f : K → L} {Good : K → Type 0} {old new : K} {from left to given : List Event}
+    → Follows answers plain f Good → Good old
     → AnswersOne answers power old new from left to given → AnswersOne plain (λ _. None) (f old) (f new) from left to given
 one_map follows good a = record { asks = asks_map follows good a.asks; powered = tt; replied = a.replied }
 
 -- what holds after requests that were answered
-all_good : {K L : Type 0} {answers : Answering K} {power : K → Option Bool} {plain : Answering L} {f : K → L} {Good : K → Type 0} {old : K} {from to : List Event} {count : ℕ} {new : K} {left given : List Event} → Follows answers plain f Good → Good old
+all_good : {K L : Type 0} {answers : Answering K} {power : K → Option Bool} {plain : Answering L} {f : K → L} {Good : K → Type 0} {old : K} {from to : List Event} {count : ℕ} {new : K}
+    {left given : List Event} → Follows answers plain f Good → Good old
     → AnswersAll answers power old from to count new left given → Good new
 all_good follows good none = good
 all_good follows good (more {mid = mid} {next = next} all one) =
     follows.good mid next one.asks.request one.asks.before one.asks.after one.asks.reply (all_good follows good all) one.asks.asked
 
-all_map : {K L : Type 0} {answers : Answering K} {power : K → Option Bool} {plain : Answering L} {f : K → L} {Good : K → Type 0} {old : K} {from to : List Event} {count : ℕ} {new : K} {left given : List Event} → Follows answers plain f Good → Good old
+all_map : {K L : Type 0} {answers : Answering K} {power : K → Option Bool} {plain : Answering L} {f : K → L} {Good : K → Type 0} {old : K} {from to : List Event} {count : ℕ} {new : K}
+    {left given : List Event} → Follows answers plain f Good → Good old
     → AnswersAll answers power old from to count new left given → AnswersAll plain (λ _. None) (f old) from to count (f new) left given
 all_map follows good none = none
 all_map follows good (more all one) = more (all_map follows good all) (one_map follows (all_good follows good all) one)
 
-ends_map : {K L : Type 0} {answers : Answering K} {plain : Answering L} {f : K → L} {Good : K → Type 0} (power : K → Option Bool) (count : ℕ) (ended : Ended) (old new : K) (from left to given : List Event) → Follows answers plain f Good → Good old
+ends_map : {K L : Type 0} {answers : Answering K} {plain : Answering L} {f : K → L} {Good : K → Type 0} (power : K → Option Bool) (count : ℕ) (ended : Ended) (old new : K)
+    (from left to given : List Event) → Follows answers plain f Good → Good old
     → EndsBehind answers power count ended old new from left to given → EndsBehind plain (λ _. None) count ended (f old) (f new) from left to given
 ends_map {f = f} power count WriteFault old new from left to given follows good h = asks_map follows good h
 ends_map {f = f} power count NoPower old new from left to given follows good h = (asks_map follows good h.0, h.1, tt)
@@ -66,7 +71,8 @@ ends_map {f = f} power count Cut old new from left to given follows good h = (h.
 ends_map {f = f} power count NotProtocol old new from left to given follows good h = (h.0, ap f h.1, h.2)
 ends_map {f = f} power count ReadFault old new from left to given follows good h = (h.0, ap f h.1, h.2)
 
-after_map : {K L : Type 0} {answers : Answering K} {power : K → Option Bool} {plain : Answering L} {f : K → L} {Good : K → Type 0} {ended : Ended} {old new : K} {from left to given : List Event} → Follows answers plain f Good → Good old
+after_map : {K L : Type 0} {answers : Answering K} {power : K → Option Bool} {plain : Answering L} {f : K → L} {Good : K → Type 0} {ended : Ended} {old new : K} {from left to given : List Event}
+    → Follows answers plain f Good → Good old
     → EndsAfter answers power ended old new from left to given → EndsAfter plain (λ _. None) ended (f old) (f new) from left to given
 after_map {power = power} {f = f} {ended = ended} {new = new} {left = left} {given = given} follows good h = record {
   count = h.count;
@@ -77,7 +83,8 @@ after_map {power = power} {f = f} {ended = ended} {new = new} {left = left} {giv
   ends = ends_map power h.count ended h.mid new h.taken left h.told_to given follows (all_good follows good h.answered) h.ends;
 }
 
-pub session_map : {K L : Type 0} {answers : Answering K} {power : K → Option Bool} {plain : Answering L} {f : K → L} {Good : K → Type 0} {size : ℕ} {ended : Ended} {old new : K} {from left to given : List Event} → Follows answers plain f Good
+pub session_map : {K L : Type 0} {answers : Answering K} {power : K → Option Bool} {plain : Answering L} {f : K → L} {Good : K → Type 0} {size : ℕ} {ended : Ended} {old new : K}
+    {from left to given : List Event} → Follows answers plain f Good
     → Good old → Session answers power size ended old new from left to given → Session plain (λ _. None) size ended (f old) (f new) from left to given
 session_map {f = f} follows good (unmet ends same) = unmet ends (ap f same)
 session_map follows good (met agrees after) = met agrees (after_map follows good after)
@@ -91,7 +98,8 @@ pub record Good {D C F : Type 0} (state : D → DieState) (meaning : C → Meani
   pub sectors : HasSectors sector_bytes (holding state meaning device disk)
   pub is_sound : sound → HasSound plan (holding state meaning device disk)
 
-pub stepped : {D C F : Type 0} (state : D → DieState) (meaning : C → Meaning) (device : F → DeviceValue) (plan : Plan) (size sector_bytes : ℕ) (sound : Type 0) → size ≡ plan.sectors * sector_bytes → (old new : DeviceDisk D C F)
+pub stepped : {D C F : Type 0} (state : D → DieState) (meaning : C → Meaning) (device : F → DeviceValue) (plan : Plan) (size sector_bytes : ℕ) (sound : Type 0) → size ≡ plan.sectors * sector_bytes
+    → (old new : DeviceDisk D C F)
     (r : Request) (before after : List ℕ) (reply : Errno) → Good state meaning device plan sector_bytes sound old → DeviceAnswers state meaning device old new r before after reply
     → Stepped device plan size sector_bytes sound (holding state meaning device old) (holding state meaning device new) new.mounted r before after reply
 stepped state meaning device plan size sector_bytes sound sized old new r before after reply good answers =
@@ -102,8 +110,10 @@ device_follows : {D C F : Type 0} (state : D → DieState) (meaning : C → Mean
     → Follows (DeviceAnswers state meaning device) (AnswersPlainly sound size sector_bytes) (disk_bytes state meaning device) (Good state meaning device plan sector_bytes sound)
 device_follows state meaning device plan size sector_bytes sound sized = record {
   step = λ old new r before after reply good answers.
-      subst (λ (p : Plan). AnswersPlainly sound size sector_bytes (bytes_on p (holding state meaning device old)) (bytes_on new.plan (holding state meaning device new)) r before after reply) (sym good.plan_is)
-      (subst (λ (p : Plan). AnswersPlainly sound size sector_bytes (bytes_on plan (holding state meaning device old)) (bytes_on p (holding state meaning device new)) r before after reply) (sym (answers.plan ∙ good.plan_is))
+      subst (λ (p : Plan). AnswersPlainly sound size sector_bytes (bytes_on p (holding state meaning device old)) (bytes_on new.plan (holding state meaning device new)) r before after reply)
+      (sym good.plan_is)
+      (subst (λ (p : Plan). AnswersPlainly sound size sector_bytes (bytes_on plan (holding state meaning device old)) (bytes_on p (holding state meaning device new)) r before after reply)
+      (sym (answers.plan ∙ good.plan_is))
       (stepped state meaning device plan size sector_bytes sound sized old new r before after reply good answers).plainly);
   good = λ old new r before after reply good answers.
       let s : Stepped device plan size sector_bytes sound (holding state meaning device old) (holding state meaning device new) new.mounted r before after reply
@@ -124,12 +134,15 @@ length_told : (plan : Plan) (size : ℕ) (held : Option Holding) → IsTold plan
 length_told plan size (Some h) told = length-joined h.meaning.sector_bytes plan.sectors (stored (numbers_held plan h).geometry h.meaning.decoding h.die.cells) ∙ sym told
 length_told plan size None told = absurd told
 
-pub device_length : {D C F : Type 0} (state : D → DieState) (meaning : C → Meaning) (device : F → DeviceValue) (disk : DeviceDisk D C F) → IsDeviceDisk state meaning device disk → length (disk_bytes state meaning device disk) ≡ disk.size
+pub device_length : {D C F : Type 0} (state : D → DieState) (meaning : C → Meaning) (device : F → DeviceValue) (disk : DeviceDisk D C F) → IsDeviceDisk state meaning device disk
+    → length (disk_bytes state meaning device disk) ≡ disk.size
 device_length state meaning device disk is = length_told disk.plan disk.size (holding state meaning device disk) is.told
 
-pub device_sessions : {D C F : Type 0} (state : D → DieState) (meaning : C → Meaning) (device : F → DeviceValue) (disk last : DeviceDisk D C F) (ended : Ended) (from left to given : List Event) → IsDeviceDisk state meaning device disk
+pub device_sessions : {D C F : Type 0} (state : D → DieState) (meaning : C → Meaning) (device : F → DeviceValue) (disk last : DeviceDisk D C F) (ended : Ended) (from left to given : List Event)
+    → IsDeviceDisk state meaning device disk
     → Session (DeviceAnswers state meaning device) (power_of state device) disk.size ended disk last from left to given
-    → Session (AnswersPlainly (HasSoundCells state meaning device disk) disk.size (sector_bytes_of state meaning device disk)) (λ _. None) disk.size ended (disk_bytes state meaning device disk) (disk_bytes state meaning device last) from left to given
+    → Session (AnswersPlainly (HasSoundCells state meaning device disk) disk.size (sector_bytes_of state meaning device disk)) (λ _. None) disk.size ended (disk_bytes state meaning device disk)
+    (disk_bytes state meaning device last) from left to given
 device_sessions state meaning device disk last ended from left to given is session =
     let held : Option Holding = holding state meaning device disk in
     session_map (device_follows state meaning device disk.plan disk.size (sector_bytes_on held) (HasSoundCells state meaning device disk) (size_told disk.plan disk.size held is.told))

@@ -44,7 +44,8 @@ pub record ComesOf (plan : Plan) (held : Option Holding) (device : DeviceValue) 
   pub held_is : held ≡ Some h
   pub is_of : IsOf plan h device
 
-pub comes_of : {D C F : Type 0} (state : D → DieState) (meaning : C → Meaning) (device : F → DeviceValue) (plan : Plan) (mounted : Option F) (closed : Option (D × C)) (now : DeviceValue) → IsPlanned device plan mounted
+pub comes_of : {D C F : Type 0} (state : D → DieState) (meaning : C → Meaning) (device : F → DeviceValue) (plan : Plan) (mounted : Option F) (closed : Option (D × C)) (now : DeviceValue)
+    → IsPlanned device plan mounted
     → ComesFrom state meaning device plan mounted closed now → ComesOf plan (held_by state meaning device mounted closed) now
 comes_of state meaning device plan (Some ftl) closed now planned comes = record {
   h = holding_of (device ftl);
@@ -97,7 +98,8 @@ none_by None sound sector_bytes r before after old new reply failed told same =
     } in
     subst (λ (e : Errno). ServesPlainly sound sector_bytes r before after old new e) (sym failed) front
 
-weaker_by : (why : Option Errno) (sound more : Type 0) (sector_bytes : ℕ) (r : Request) (before after old new : List ℕ) (reply : Errno) → (more → sound) → PlainlyBy why sound sector_bytes r before after old new reply
+weaker_by : (why : Option Errno) (sound more : Type 0) (sector_bytes : ℕ) (r : Request) (before after old new : List ℕ) (reply : Errno) → (more → sound)
+    → PlainlyBy why sound sector_bytes r before after old new reply
     → PlainlyBy why more sector_bytes r before after old new reply
 weaker_by (Some why) sound more sector_bytes r before after old new reply f h = h
 weaker_by None sound more sector_bytes r before after old new Done f h = h
@@ -113,7 +115,8 @@ HasSectors sector_bytes (Some h) = h.meaning.sector_bytes ≡ sector_bytes
 HasSectors sector_bytes None = ⊥
 
 -- what a request leaves of a disk: its bytes as a plain server's, and what later requests need
-pub record Stepped {F : Type 0} (device : F → DeviceValue) (plan : Plan) (size sector_bytes : ℕ) (sound : Type 0) (old new : Option Holding) (mounted : Option F) (r : Request) (before after : List ℕ) (reply : Errno) : Type 0 where
+pub record Stepped {F : Type 0} (device : F → DeviceValue) (plan : Plan) (size sector_bytes : ℕ) (sound : Type 0) (old new : Option Holding) (mounted : Option F) (r : Request)
+    (before after : List ℕ) (reply : Errno) : Type 0 where
   pub plainly : AnswersPlainly sound size sector_bytes (bytes_on plan old) (bytes_on plan new) r before after reply
   pub planned : IsPlanned device plan mounted
   pub sectors : HasSectors sector_bytes new
@@ -132,7 +135,8 @@ same_sound plan old new same sound =
     (subst (λ (m : Meaning). IsSound (numbers_of old.die.shape m plan).geometry new.die.cells) (sym same.meaning)
     (subst (λ (c : List (List ℕ)). IsSound (numbers_held plan old).geometry c) (sym same.cells) sound))
 
-none_stepped : {F : Type 0} (device : F → DeviceValue) (plan : Plan) (size sector_bytes : ℕ) (sound : Type 0) (old new : Option Holding) (r : Request) (before after : List ℕ) (reply : Errno) → HasSectors sector_bytes old
+none_stepped : {F : Type 0} (device : F → DeviceValue) (plan : Plan) (size sector_bytes : ℕ) (sound : Type 0) (old new : Option Holding) (r : Request) (before after : List ℕ) (reply : Errno)
+    → HasSectors sector_bytes old
     → (sound → HasSound plan old) → AsksNone old new before after reply → Stepped device plan size sector_bytes sound old new None r before after reply
 none_stepped device plan size sector_bytes sound (Some old) (Some new) r before after reply sectors holds asks = record {
   plainly = none_by (refusal size r) sound sector_bytes r before after (bytes_on plan (Some old)) (bytes_on plan (Some new)) reply asks.reply_is asks.data_are (same_bytes plan old new asks.same);
@@ -159,7 +163,8 @@ later plan h device new is keeps =
       same = ap (λ s. numbers_of s new.numbers.meaning plan) shape ∙ ap (λ m. numbers_of h.die.shape m plan) meaning;
     }
 
-asked_stepped : {F : Type 0} (device : F → DeviceValue) (plan : Plan) (size sector_bytes : ℕ) (sound : Type 0) (h : Holding) (ftl : F) (r : Request) (before after : List ℕ) (reply : Errno) (asked : DeviceValue)
+asked_stepped : {F : Type 0} (device : F → DeviceValue) (plan : Plan) (size sector_bytes : ℕ) (sound : Type 0) (h : Holding) (ftl : F) (r : Request) (before after : List ℕ) (reply : Errno)
+    (asked : DeviceValue)
     → size ≡ plan.sectors * sector_bytes → h.meaning.sector_bytes ≡ sector_bytes → (sound → IsSound (numbers_held plan h).geometry h.die.cells) → IsOf plan h asked
     → Answers asked.numbers r before after asked (device ftl) reply → Stepped device plan size sector_bytes sound (Some h) (Some (holding_of (device ftl))) (Some ftl) r before after reply
 asked_stepped device plan size sector_bytes sound h ftl r before after reply asked sized sectors holds is answers =
@@ -176,23 +181,30 @@ asked_stepped device plan size sector_bytes sound h ftl r before after reply ask
     = λ s. subst (λ (d : Numbers). IsSound d.geometry asked.view.die.cells) (sym is.numbers) (subst (λ (c : List (List ℕ)). IsSound (numbers_held plan h).geometry c) (sym is.cells) s) in
     let sound_new : IsSound asked.numbers.geometry new.view.die.cells → IsSound (numbers_held plan (holding_of new)).geometry new.view.die.cells
     = λ s. subst (λ (d : Numbers). IsSound d.geometry new.view.die.cells) (is.numbers ∙ sym l.same) s in
-    let first : PlainlyBy (refusal (disk_size asked.numbers) r) (IsSound asked.numbers.geometry asked.view.die.cells) asked.numbers.geometry.sector_bytes r before after (disk asked.numbers asked.view) (disk asked.numbers new.view) reply
+    let first : PlainlyBy (refusal (disk_size asked.numbers) r) (IsSound asked.numbers.geometry asked.view.die.cells) asked.numbers.geometry.sector_bytes r before after
+    (disk asked.numbers asked.view) (disk asked.numbers new.view) reply
     = plainly_by (refusal (disk_size asked.numbers) r) asked.numbers r before after asked new reply answers in
     let second : PlainlyBy (refusal (disk_size asked.numbers) r) sound asked.numbers.geometry.sector_bytes r before after (disk asked.numbers asked.view) (disk asked.numbers new.view) reply
-    = weaker_by (refusal (disk_size asked.numbers) r) (IsSound asked.numbers.geometry asked.view.die.cells) sound asked.numbers.geometry.sector_bytes r before after (disk asked.numbers asked.view) (disk asked.numbers new.view) reply
+    = weaker_by (refusal (disk_size asked.numbers) r) (IsSound asked.numbers.geometry asked.view.die.cells) sound asked.numbers.geometry.sector_bytes r before after (disk asked.numbers asked.view)
+    (disk asked.numbers new.view) reply
     (λ s. sound_asked (holds s)) first in
     record {
-      plainly = subst (λ (n : ℕ). PlainlyBy (refusal n r) sound sector_bytes r before after (bytes_of_cells (numbers_held plan h) h.die.cells) (bytes_of_cells (numbers_held plan (holding_of new)) new.view.die.cells) reply) whole
-          (subst (λ (n : ℕ). PlainlyBy (refusal (disk_size asked.numbers) r) sound n r before after (bytes_of_cells (numbers_held plan h) h.die.cells) (bytes_of_cells (numbers_held plan (holding_of new)) new.view.die.cells) reply) width
-          (subst (λ (b : List ℕ). PlainlyBy (refusal (disk_size asked.numbers) r) sound asked.numbers.geometry.sector_bytes r before after (bytes_of_cells (numbers_held plan h) h.die.cells) b reply) bytes'
+      plainly = subst (λ (n : ℕ). PlainlyBy (refusal n r) sound sector_bytes r before after (bytes_of_cells (numbers_held plan h) h.die.cells)
+          (bytes_of_cells (numbers_held plan (holding_of new)) new.view.die.cells) reply) whole
+          (subst (λ (n : ℕ). PlainlyBy (refusal (disk_size asked.numbers) r) sound n r before after (bytes_of_cells (numbers_held plan h) h.die.cells)
+          (bytes_of_cells (numbers_held plan (holding_of new)) new.view.die.cells) reply) width
+          (subst (λ (b : List ℕ). PlainlyBy (refusal (disk_size asked.numbers) r) sound asked.numbers.geometry.sector_bytes r before after (bytes_of_cells (numbers_held plan h) h.die.cells) b
+          reply) bytes'
           (subst (λ (b : List ℕ). PlainlyBy (refusal (disk_size asked.numbers) r) sound asked.numbers.geometry.sector_bytes r before after b (disk asked.numbers new.view) reply) bytes second)));
       planned = l.numbers ∙ sym l.same;
       sectors = ap (λ (d : Numbers). d.meaning.sector_bytes) l.numbers ∙ sectors;
       still_sound = λ s. sound_new (keeps.sound (sound_asked (holds s)));
     }
 
-comes_stepped : {F : Type 0} (device : F → DeviceValue) (plan : Plan) (size sector_bytes : ℕ) (sound : Type 0) (held : Option Holding) (h : Holding) (ftl : F) (r : Request) (before after : List ℕ) (reply : Errno) (asked : DeviceValue)
-    → held ≡ Some h → size ≡ plan.sectors * sector_bytes → HasSectors sector_bytes held → (sound → HasSound plan held) → IsOf plan h asked → Answers asked.numbers r before after asked (device ftl) reply
+comes_stepped : {F : Type 0} (device : F → DeviceValue) (plan : Plan) (size sector_bytes : ℕ) (sound : Type 0) (held : Option Holding) (h : Holding) (ftl : F) (r : Request) (before after : List ℕ)
+    (reply : Errno) (asked : DeviceValue)
+    → held ≡ Some h → size ≡ plan.sectors * sector_bytes → HasSectors sector_bytes held → (sound → HasSound plan held) → IsOf plan h asked
+    → Answers asked.numbers r before after asked (device ftl) reply
     → Stepped device plan size sector_bytes sound held (Some (holding_of (device ftl))) (Some ftl) r before after reply
 comes_stepped device plan size sector_bytes sound (Some old) h ftl r before after reply asked e sized sectors holds is answers =
     let same : h ≡ old = cc in
@@ -201,7 +213,8 @@ comes_stepped device plan size sector_bytes sound (Some old) h ftl r before afte
 comes_stepped device plan size sector_bytes sound None h ftl r before after reply asked e sized sectors holds is answers = absurd sectors
 
 -- a request on a disk over a device
-pub answers_stepped : {D C F : Type 0} (state : D → DieState) (meaning : C → Meaning) (device : F → DeviceValue) (plan : Plan) (size sector_bytes : ℕ) (sound : Type 0) (mounted next : Option F) (closed left : Option (D × C))
+pub answers_stepped : {D C F : Type 0} (state : D → DieState) (meaning : C → Meaning) (device : F → DeviceValue) (plan : Plan) (size sector_bytes : ℕ) (sound : Type 0) (mounted next : Option F)
+    (closed left : Option (D × C))
     (r : Request) (before after : List ℕ) (reply : Errno) → size ≡ plan.sectors * sector_bytes → IsPlanned device plan mounted → HasSectors sector_bytes (held_by state meaning device mounted closed)
     → (sound → HasSound plan (held_by state meaning device mounted closed)) → AnswersHeld state meaning device plan mounted closed next left r before after reply
     → Stepped device plan size sector_bytes sound (held_by state meaning device mounted closed) (held_by state meaning device next left) next r before after reply
@@ -209,4 +222,5 @@ answers_stepped state meaning device plan size sector_bytes sound mounted None c
     none_stepped device plan size sector_bytes sound (held_by state meaning device mounted closed) (held_by state meaning device None left) r before after reply sectors holds answers
 answers_stepped state meaning device plan size sector_bytes sound mounted (Some ftl) closed left r before after reply sized planned sectors holds answers =
     let comes : ComesOf plan (held_by state meaning device mounted closed) answers.device = comes_of state meaning device plan mounted closed answers.device planned answers.comes in
-    comes_stepped device plan size sector_bytes sound (held_by state meaning device mounted closed) comes.h ftl r before after reply answers.device comes.held_is sized sectors holds comes.is_of answers.answered
+    comes_stepped device plan size sector_bytes sound (held_by state meaning device mounted closed) comes.h ftl r before after reply answers.device comes.held_is sized sectors holds comes.is_of
+    answers.answered

@@ -93,24 +93,24 @@ put_row d sector start bytes row view sizes inside fits puts =
     let long : length (rows_of d view) ≡ d.geometry.sectors = length-rows_of d view in
     joined_set d.geometry.sector_bytes d.geometry.sectors sector start bytes row (rows_of d view) (omega (arith, sizes.some)) inside (omega arith) fits puts
 
-pub has_put_row : (d : Numbers) (sector start : ℕ) (bytes row : List ℕ) (old new : DeviceValue) → IsDisk d → sector < d.geometry.sectors → start + length bytes ≤ d.geometry.sector_bytes
-    → PutsIn d.geometry.sector_bytes start bytes (get_or (rows_of d old.view) sector []) row → HasRow d sector row old new → HasPut d (sector * d.geometry.sector_bytes + start) bytes old new
-has_put_row d sector start bytes row old new sizes inside fits puts has = record {
-  keeps = has.keeps;
-  put = ap (joined d.geometry.sector_bytes d.geometry.sectors) has.rows ∙ put_row d sector start bytes row old.view sizes inside fits puts;
-  running = has.running;
-}
+module _ {d : Numbers} {sector start : ℕ} {bytes row : List ℕ} {old new : DeviceValue} (sizes : IsDisk d) (inside : sector < d.geometry.sectors) (fits : start + length bytes ≤ d.geometry.sector_bytes)
+    (puts : PutsIn d.geometry.sector_bytes start bytes (get_or (rows_of d old.view) sector []) row) where
+  pub has_put_row : HasRow d sector row old new → HasPut d (sector * d.geometry.sector_bytes + start) bytes old new
+  has_put_row has = record {
+    keeps = has.keeps;
+    put = ap (joined d.geometry.sector_bytes d.geometry.sectors) has.rows ∙ put_row d sector start bytes row old.view sizes inside fits puts;
+    running = has.running;
+  }
 
-pub part_fails_row : (d : Numbers) (sector start : ℕ) (bytes row : List ℕ) (old new : DeviceValue) → IsDisk d → sector < d.geometry.sectors → start + length bytes ≤ d.geometry.sector_bytes
-    → PutsIn d.geometry.sector_bytes start bytes (get_or (rows_of d old.view) sector []) row → RowFails d sector row old new → PartFails d (sector * d.geometry.sector_bytes + start) bytes old new
-part_fails_row d sector start bytes row old new sizes inside fits puts fails = record {
-  keeps = fails.keeps;
-  either = λ sound. elim (fails.either sound) [
-    | inl same ↦ inl (ap (joined d.geometry.sector_bytes d.geometry.sectors) same)
-    | inr done ↦ inr (ap (joined d.geometry.sector_bytes d.geometry.sectors) done ∙ put_row d sector start bytes row old.view sizes inside fits puts)
-  ];
-  cause = fails.cause;
-}
+  pub part_fails_row : RowFails d sector row old new → PartFails d (sector * d.geometry.sector_bytes + start) bytes old new
+  part_fails_row fails = record {
+    keeps = fails.keeps;
+    either = λ sound. elim (fails.either sound) [
+      | inl same ↦ inl (ap (joined d.geometry.sector_bytes d.geometry.sectors) same)
+      | inr done ↦ inr (ap (joined d.geometry.sector_bytes d.geometry.sectors) done ∙ put_row d sector start bytes row old.view sizes inside fits puts)
+    ];
+    cause = fails.cause;
+  }
 
 -- ---- reads
 
@@ -130,23 +130,23 @@ read_row d sector start n view row into sizes inside fits is long copied =
 
 -- ---- a change of a whole sector
 
-pub whole_put : (d : Numbers) (part : Part) (bytes row : List ℕ) (old new : DeviceValue) → IsDisk d → IsPart d part → part.count ≡ d.geometry.sector_bytes → bytes ≡ row → length row ≡ part.count
-    → HasRow d part.sector row old new → HasPut d (place_of d part) bytes old new
-whole_put d part bytes row old new sizes fits whole same long has =
-    let first : part.start ≡ 0 = omega (arith, fits.within) in
-    let full : length row ≡ d.geometry.sector_bytes = long ∙ whole in
-    let P : ℕ → List ℕ → Type 0 = λ start put. HasPut d (part.sector * d.geometry.sector_bytes + start) put old new in
-    subst (λ (start : ℕ). P start bytes) (sym first) (subst (P 0) (sym same)
-    (has_put_row d part.sector 0 row row old new sizes fits.sector (omega arith) (puts_whole d.geometry.sector_bytes row (get_or (rows_of d old.view) part.sector []) full) has))
+module _ (d : Numbers) (part : Part) (bytes row : List ℕ) (old new : DeviceValue) (sizes : IsDisk d) (fits : IsPart d part) (whole : part.count ≡ d.geometry.sector_bytes) (same : bytes ≡ row)
+    (long : length row ≡ part.count) where
+  first : part.start ≡ 0
+  first = omega (arith, fits.within)
 
-pub whole_fails : (d : Numbers) (part : Part) (bytes row : List ℕ) (old new : DeviceValue) → IsDisk d → IsPart d part → part.count ≡ d.geometry.sector_bytes → bytes ≡ row → length row ≡ part.count
-    → RowFails d part.sector row old new → PartFails d (place_of d part) bytes old new
-whole_fails d part bytes row old new sizes fits whole same long fails =
-    let first : part.start ≡ 0 = omega (arith, fits.within) in
-    let full : length row ≡ d.geometry.sector_bytes = long ∙ whole in
-    let P : ℕ → List ℕ → Type 0 = λ start put. PartFails d (part.sector * d.geometry.sector_bytes + start) put old new in
-    subst (λ (start : ℕ). P start bytes) (sym first) (subst (P 0) (sym same)
-    (part_fails_row d part.sector 0 row row old new sizes fits.sector (omega arith) (puts_whole d.geometry.sector_bytes row (get_or (rows_of d old.view) part.sector []) full) fails))
+  all_put : PutsIn d.geometry.sector_bytes 0 row (get_or (rows_of d old.view) part.sector []) row
+  all_put = puts_whole d.geometry.sector_bytes row (get_or (rows_of d old.view) part.sector []) (long ∙ whole)
+
+  pub whole_put : HasRow d part.sector row old new → HasPut d (place_of d part) bytes old new
+  whole_put has =
+      let P : ℕ → List ℕ → Type 0 = λ start put. HasPut d (part.sector * d.geometry.sector_bytes + start) put old new in
+      subst (λ (start : ℕ). P start bytes) (sym first) (subst (P 0) (sym same) (has_put_row sizes fits.sector (omega (arith, long, whole)) all_put has))
+
+  pub whole_fails : RowFails d part.sector row old new → PartFails d (place_of d part) bytes old new
+  whole_fails fails =
+      let P : ℕ → List ℕ → Type 0 = λ start put. PartFails d (part.sector * d.geometry.sector_bytes + start) put old new in
+      subst (λ (start : ℕ). P start bytes) (sym first) (subst (P 0) (sym same) (part_fails_row sizes fits.sector (omega (arith, long, whole)) all_put fails))
 
 -- ---- a change of a part: the sector is read, bytes of it are changed, and it is written
 
@@ -160,40 +160,34 @@ pub record Changes (d : Numbers) (part : Part) (bytes row changed : List ℕ) (o
   pub long : length row ≡ d.geometry.sector_bytes
   pub changed_is : changed ≡ put part.start bytes row
 
-changed_row : (d : Numbers) (part : Part) (bytes row changed : List ℕ) (old mid : DeviceValue) → Changes d part bytes row changed old mid
-    → PutsIn d.geometry.sector_bytes part.start bytes (get_or (rows_of d mid.view) part.sector []) changed
-changed_row d part bytes row changed old mid h =
-    let is : row ≡ get_or (rows_of d mid.view) part.sector [] = h.row_is ∙ ap (λ rows. get_or rows part.sector []) (sym h.same.rows) in
-    let P : List ℕ → List ℕ → Type 0 = λ was now. PutsIn d.geometry.sector_bytes part.start bytes was now in
-    subst (λ (was : List ℕ). P was changed) is (subst (P row) (sym h.changed_is) (puts_row d.geometry.sector_bytes part.start bytes row h.long (omega (arith, h.fits.within, h.whole))))
+module _ (d : Numbers) (part : Part) (bytes row changed : List ℕ) (old mid new : DeviceValue) (h : Changes d part bytes row changed old mid) where
+  changed_row : PutsIn d.geometry.sector_bytes part.start bytes (get_or (rows_of d mid.view) part.sector []) changed
+  changed_row =
+      let is : row ≡ get_or (rows_of d mid.view) part.sector [] = h.row_is ∙ ap (λ rows. get_or rows part.sector []) (sym h.same.rows) in
+      let P : List ℕ → List ℕ → Type 0 = λ was now. PutsIn d.geometry.sector_bytes part.start bytes was now in
+      subst (λ (was : List ℕ). P was changed) is (subst (P row) (sym h.changed_is) (puts_row d.geometry.sector_bytes part.start bytes row h.long (omega (arith, h.fits.within, h.whole))))
 
-pub change_put : (d : Numbers) (part : Part) (bytes row changed : List ℕ) (old mid new : DeviceValue) → Changes d part bytes row changed old mid
-    → HasRow mid.numbers part.sector changed mid new → HasPut d (place_of d part) bytes old new
-change_put d part bytes row changed old mid new h has =
-    let has_d : HasRow d part.sector changed mid new = let P : Numbers → Type 0 = λ n. HasRow n part.sector changed mid new in subst P h.numbers has in
-    let put_d : HasPut d (place_of d part) bytes mid new
-    = has_put_row d part.sector part.start bytes changed mid new h.sizes h.fits.sector (omega (arith, h.fits.within, h.whole)) (changed_row d part bytes row changed old mid h) has_d in
-    record {
-      keeps = keeps_trans h.same.keeps put_d.keeps;
-      put = put_d.put ∙ ap (λ rows. put (place_of d part) bytes (joined d.geometry.sector_bytes d.geometry.sectors rows)) h.same.rows;
-      running = put_d.running;
-    }
+  as_before : disk d mid.view ≡ disk d old.view
+  as_before = ap (joined d.geometry.sector_bytes d.geometry.sectors) h.same.rows
 
-pub change_fails : (d : Numbers) (part : Part) (bytes row changed : List ℕ) (old mid new : DeviceValue) → Changes d part bytes row changed old mid
-    → RowFails mid.numbers part.sector changed mid new → PartFails d (place_of d part) bytes old new
-change_fails d part bytes row changed old mid new h fails =
-    let fails_d : RowFails d part.sector changed mid new = let P : Numbers → Type 0 = λ n. RowFails n part.sector changed mid new in subst P h.numbers fails in
-    let part_d : PartFails d (place_of d part) bytes mid new
-    = part_fails_row d part.sector part.start bytes changed mid new h.sizes h.fits.sector (omega (arith, h.fits.within, h.whole)) (changed_row d part bytes row changed old mid h) fails_d in
-    let before : disk d mid.view ≡ disk d old.view = ap (joined d.geometry.sector_bytes d.geometry.sectors) h.same.rows in
-    record {
-      keeps = keeps_trans h.same.keeps part_d.keeps;
-      either = λ sound. elim (part_d.either (h.same.keeps.sound sound)) [
-        | inl stays ↦ inl (stays ∙ before)
-        | inr done ↦ inr (done ∙ ap (put (place_of d part) bytes) before)
-      ];
-      cause = later_cause d old mid new h.same.keeps part_d.cause;
-    }
+  pub change_put : HasRow mid.numbers part.sector changed mid new → HasPut d (place_of d part) bytes old new
+  change_put has =
+      let has_d : HasRow d part.sector changed mid new = subst (λ (n : Numbers). HasRow n part.sector changed mid new) h.numbers has in
+      let put_d : HasPut d (place_of d part) bytes mid new = has_put_row h.sizes h.fits.sector (omega (arith, h.fits.within, h.whole)) changed_row has_d in
+      record { keeps = keeps_trans h.same.keeps put_d.keeps; put = put_d.put ∙ ap (put (place_of d part) bytes) as_before; running = put_d.running }
+
+  pub change_fails : RowFails mid.numbers part.sector changed mid new → PartFails d (place_of d part) bytes old new
+  change_fails fails =
+      let fails_d : RowFails d part.sector changed mid new = subst (λ (n : Numbers). RowFails n part.sector changed mid new) h.numbers fails in
+      let part_d : PartFails d (place_of d part) bytes mid new = part_fails_row h.sizes h.fits.sector (omega (arith, h.fits.within, h.whole)) changed_row fails_d in
+      record {
+        keeps = keeps_trans h.same.keeps part_d.keeps;
+        either = λ sound. elim (part_d.either (h.same.keeps.sound sound)) [
+          | inl stays ↦ inl (stays ∙ as_before)
+          | inr done ↦ inr (done ∙ ap (put (place_of d part) bytes) as_before)
+        ];
+        cause = later_cause d old mid new h.same.keeps part_d.cause;
+      }
 
 pub read_fails_part : {d : Numbers} {place : ℕ} {bytes : List ℕ} {old new : DeviceValue} → ReadFails d old new → PartFails d place bytes old new
 read_fails_part {d} fails = record { keeps = fails.same.keeps; either = λ sound. inl (ap (joined d.geometry.sector_bytes d.geometry.sectors) fails.same.rows); cause = fails.cause }

@@ -20,7 +20,8 @@ pub record IsDeviceDisk {D C F : Type 0} (state : D → DieState) (meaning : C �
   pub told : IsTold disk.plan disk.size (held_by state meaning device disk.mounted disk.closed)
 
 -- it answered a request, and has the same plan and size
-pub record DeviceAnswers {D C F : Type 0} (state : D → DieState) (meaning : C → Meaning) (device : F → DeviceValue) (old new : DeviceDisk D C F) (r : Request) (before after : List ℕ) (reply : Errno) : Type 0 where
+pub record DeviceAnswers {D C F : Type 0} (state : D → DieState) (meaning : C → Meaning) (device : F → DeviceValue) (old new : DeviceDisk D C F) (r : Request) (before after : List ℕ)
+    (reply : Errno) : Type 0 where
   pub plan : new.plan ≡ old.plan
   pub size : new.size ≡ old.size
   pub answered : AnswersHeld state meaning device old.plan old.mounted old.closed new.mounted new.closed r before after reply

@@ -107,7 +107,8 @@ pub record AnswersOption (size flags : ℕ) (next : Next) (from left to given : 
 -- so many options were answered, each once, in their order, and behind each the next
 pub data AnswersOptions (size flags : ℕ) (from to : List Event) : ℕ → List Event → List Event → Type 0 where
   none : AnswersOptions size flags from to 0 from to
-  more : {count : ℕ} {left rest given all : List Event} → AnswersOptions size flags from to count left given → AnswersOption size flags Another left rest given all → AnswersOptions size flags from to (count + 1) rest all
+  more : {count : ℕ} {left rest given all : List Event} → AnswersOptions size flags from to count left given → AnswersOption size flags Another left rest given all
+      → AnswersOptions size flags from to (count + 1) rest all
 
 -- flags were taken: a number of four bytes, the highest first
 pub record TakesFlags (flags : ℕ) (from left : List Event) : Type 0 where
@@ -195,4 +196,5 @@ pub data EndsHandshake (size : ℕ) (ended : Ended) (from left to given : List E
 -- A session: its handshake, and then its requests. Where no requests follow the disk is as it was.
 pub data Session {K : Type 0} (answers : Answering K) (power : K → Option Bool) (size : ℕ) (ended : Ended) (disk last : K) (from left to given : List Event) : Type 0 where
   unmet : EndsHandshake size ended from left to given → last ≡ disk → Session answers power size ended disk last from left to given
-  met : {taken told_so_far : List Event} → Agrees size from taken to told_so_far → EndsAfter answers power ended disk last taken left told_so_far given → Session answers power size ended disk last from left to given
+  met : {taken told_so_far : List Event} → Agrees size from taken to told_so_far → EndsAfter answers power ended disk last taken left told_so_far given
+      → Session answers power size ended disk last from left to given

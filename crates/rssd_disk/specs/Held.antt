@@ -94,7 +94,8 @@ pub record AsksNone (old new : Option Holding) (before after : List ℕ) (reply 
   pub data_are : after ≡ before
   pub same : SameHeld old new
 
-abbrev pub AnswersHeld : {D C F : Type 0} → (D → DieState) → (C → Meaning) → (F → DeviceValue) → Plan → Option F → Option (D × C) → Option F → Option (D × C) → Request → List ℕ → List ℕ → Errno → Type 0
+abbrev pub AnswersHeld : {D C F : Type 0} → (D → DieState) → (C → Meaning) → (F → DeviceValue) → Plan → Option F → Option (D × C) → Option F → Option (D × C) → Request → List ℕ → List ℕ → Errno
+    → Type 0
 AnswersHeld state meaning device plan mounted closed None left r before after reply = AsksNone (held_by state meaning device mounted closed) (held_by state meaning device None left) before after reply
 AnswersHeld state meaning device plan mounted closed (Some ftl) left r before after reply = AskedOf (ComesFrom state meaning device plan mounted closed) r before after reply (device ftl)
 

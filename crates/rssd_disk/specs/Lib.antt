@@ -1,6 +1,7 @@
 pub mod Bytes
 pub mod Disk
 pub mod Puts
+pub mod Data
 pub mod Rules
 pub mod Answers
 pub mod Streams

@@ -70,7 +70,8 @@ pub record AnswersOne {K : Type 0} (answers : Answering K) (power : K → Option
 -- so many requests were answered, each once, in their order
 pub data AnswersAll {K : Type 0} (answers : Answering K) (power : K → Option Bool) (disk : K) (from to : List Event) : ℕ → K → List Event → List Event → Type 0 where
   none : AnswersAll answers power disk from to 0 disk from to
-  more : {count : ℕ} {mid next : K} {left rest given all : List Event} → AnswersAll answers power disk from to count mid left given → AnswersOne answers power mid next left rest given all → AnswersAll answers power disk from to (count + 1) next rest all
+  more : {count : ℕ} {mid next : K} {left rest given all : List Event} → AnswersAll answers power disk from to count mid left given → AnswersOne answers power mid next left rest given all
+      → AnswersAll answers power disk from to (count + 1) next rest all
 
 -- so many bytes were taken as a request's head has, and they are none
 pub record TakesNoRequest (from left : List Event) : Type 0 where

@@ -4,7 +4,7 @@ ghost use Rattle.rssd_disk.specs.Answers.{Answers, CarriedOut};
 ghost use Rattle.rssd_disk.specs.Disk.{IsDisk, disk_size};
 ghost use Rattle.rssd_disk.specs.Rules.{HasRange, data_length};
 
-use crate::bytes::{read_bytes, write_bytes, zero_bytes};
+use crate::bytes::{Data, put_bytes, read_bytes};
 use crate::rules::refusal;
 use cell_die::Die;
 use nbd_wire::{Command, Errno, Request};
@@ -50,7 +50,7 @@ fn answer_write<D: Die + Drop, C: Scheme + Drop, F: Device<D, C>>(
     requires room { length bytes.now ≡ request.now.length }
     ensures { CarriedOut (F.device ftl.old).numbers request.now bytes.now bytes.now (F.device ftl.old) (F.device ftl.new) result }
 {
-    match write_bytes(ftl, request.offset, bytes) {
+    match put_bytes(ftl, request.offset, &Data::Given(bytes)) {
         Ok(()) => Errno::Done,
         Err(_) => Errno::InputOutput,
     }
@@ -68,7 +68,7 @@ fn answer_zeroes<D: Die + Drop, C: Scheme + Drop, F: Device<D, C>>(
     requires running { (F.device ftl.old).stopped ≡ false }
     ensures { CarriedOut (F.device ftl.old).numbers request.now bytes.now bytes.now (F.device ftl.old) (F.device ftl.new) result }
 {
-    match zero_bytes(ftl, request.offset, request.length as usize) {
+    match put_bytes(ftl, request.offset, &Data::Zeros(request.length as usize)) {
         Ok(()) => Errno::Done,
         Err(_) => Errno::InputOutput,
     }

@@ -18,7 +18,8 @@ pub enum Ended {
     Left,
     /// The input ended.
     Cut,
-    /// What came is not the protocol.
+    /// What came is not the protocol. A session also ends so where 2^64 - 1 options were answered, behind each of which another may
+    /// come, or 2^64 - 1 requests: it takes no more.
     NotProtocol,
     ReadFault,
     WriteFault,

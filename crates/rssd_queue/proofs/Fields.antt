@@ -1,14 +1,13 @@
 -- The fields of a queue hold what waits over each change: chain s stays the part of the order whose commands are of sector s.
-use Rattle.std.proofs.Common.{◌≡◌, ◌≢◌, ℕ, zero, suc, ◌+◌, ◌-◌, ◌<◌, ◌≤◌, inl, inr, Bool, true, false, cond, eqb, if◌then◌else◌, List, [], ◌∷◌, ◌++◌, length, map, take, drop, remove, get_or, set, replicate, refl, sym, ap, ap₂, ◌∙◌, subst, arith, get_or-set_same, get_or-set_other, length-set, length-append}
-use Rattle.std.specs.List.{filter}
-use Rattle.std.proofs.lemmas.Bool.{cases_Bool, cases_eq, cases_lt, eq-eqb, eqb-true, ne_eqb, ltb-false}
+use Rattle.std.proofs.Common.{◌≡◌, ◌≢◌, ℕ, zero, suc, ◌+◌, ◌-◌, ◌<◌, ◌≤◌, inl, inr, true, false, eqb, List, [], ◌∷◌, ◌++◌, length, map, take, drop, remove, get_or, set, replicate, refl, sym, ap, ap₂, ◌∙◌, subst, arith, get_or-set_same, get_or-set_other, length-set, length-append}
+use Rattle.std.proofs.lemmas.Bool.{cases_eq, eq-eqb, ne_eqb, ltb-false}
 use Rattle.std.proofs.lemmas.List.{length-map, length-replicate, take-map, drop-map, map-append}
 use Rattle.std.proofs.lemmas.List.Elements.{filter-append}
 use Rattle.block_links.specs.Lists.{Lists, times, without, list_at, appended, removed, IsFree, IsListed}
 use Rattle.block_links.proofs.Times.{times-append, times-head, times-tail, times-without_same, times-without_other, without_absent}
 use Rattle.block_links.proofs.Ring.{list_at-removed}
-use Rattle.rssd_queue.proofs.Filters.{filter-without, filter-agree, times-filter, times-filter-le}
-use Rattle.rssd_core.specs.SectorArray.{filled_up}
+use Rattle.block_state.proofs.Order.{filter-without, times-filter, times-filter-le}
+use Rattle.rssd_queue.proofs.Filters.{filter-agree}
 use Rattle.rssd_queue.specs.declared.ask.Ask.{Ask}
 use Rattle.rssd_queue.specs.declared.ask.Ask.TheVariants.{Write, Read, Trim}
 use Rattle.rssd_queue.specs.declared.ask.Tagged.{Tagged}
@@ -143,7 +142,11 @@ module _ (nodes : List Tagged) (order chains : Lists) (waiting passed sectors by
     put_within = let w = unused_within order kept.has_nodes n unused in let k = kept.node_count in omega arith
 
     pub put_free : IsFree chains.lists n
-    put_free s = let le = times-filter-le (λ m. eqb (sector_in nodes m) s) n ws in let none = not_in_order order kept.has_nodes n unused in let e = ap (times n) (kept.has_chains.parts s) in omega arith
+    put_free s =
+        let le = times-filter-le (λ m. eqb (sector_in nodes m) s) n ws in
+        let none = not_in_order order kept.has_nodes n unused in
+        let e = ap (times n) (kept.has_chains.parts s) in
+        omega arith
 
     not_here : (m : ℕ) → 0 < times m ws → m ≢ n
     not_here m some same = let none = not_in_order order kept.has_nodes n unused in let t = ap (λ (k : ℕ). times k ws) same in omega arith
@@ -213,13 +216,22 @@ module _ (nodes : List Tagged) (order chains : Lists) (waiting passed sectors by
         }
 
 -- a write that fits is whole when it is filled up
-pub filled_whole : (bytes : ℕ) (ask : Ask) → is_long bytes ask ≡ false → IsWhole bytes (filled bytes ask)
-filled_whole bytes (Write sector row) fits = let few = ltb-false bytes (length row) fits in length-append row (replicate (bytes - length row) 0) ∙ ap (λ (n : ℕ). length row + n) (length-replicate (bytes - length row) 0) ∙ omega arith
+filled_whole : (bytes : ℕ) (ask : Ask) → is_long bytes ask ≡ false → IsWhole bytes (filled bytes ask)
+filled_whole bytes (Write sector row) fits =
+    let few = ltb-false bytes (length row) fits in
+    length-append row (replicate (bytes - length row) 0) ∙ ap (λ (n : ℕ). length row + n) (length-replicate (bytes - length row) 0) ∙ omega arith
 filled_whole bytes (Read sector) fits = tt
 filled_whole bytes (Trim sector) fits = tt
 
 -- filling up keeps the sector
-pub sector-filled : (bytes : ℕ) (ask : Ask) → sector_of (filled bytes ask) ≡ sector_of ask
+sector-filled : (bytes : ℕ) (ask : Ask) → sector_of (filled bytes ask) ≡ sector_of ask
 sector-filled bytes (Write sector row) = refl
 sector-filled bytes (Read sector) = refl
 sector-filled bytes (Trim sector) = refl
+
+-- a command that was accepted is of the sector that it was given for, and whole
+pub accepted_fits : (bytes sectors : ℕ) (given command : Tagged) → command ≡ accepted bytes given → sector_of given.ask < sectors → is_long bytes given.ask ≡ false
+    → (sector_of command.ask < sectors) × IsWhole bytes command.ask
+accepted_fits bytes sectors given command is inside fits =
+    subst (λ (d : Tagged). (sector_of d.ask < sectors) × IsWhole bytes d.ask) (sym is)
+    (subst (λ (s : ℕ). s < sectors) (sym (sector-filled bytes given.ask)) inside, filled_whole bytes given.ask fits)

@@ -1,15 +1,15 @@
 -- A node is free where its read is the first command of its sector: the first free node of the order is the first free read.
-use Rattle.std.proofs.Common.{◌≡◌, ◌≢◌, ℕ, zero, suc, ◌+◌, ◌<◌, ◌≤◌, inl, inr, ◌&&◌, Bool, true, false, eqb, Option, Some, None, List, [], ◌∷◌, length, map, get_or, refl, sym, ap, ◌∙◌, subst, arith, MatchOption}
+use Rattle.std.proofs.Common.{◌≡◌, ℕ, zero, suc, ◌+◌, ◌<◌, ◌≤◌, inl, inr, ◌&&◌, Bool, true, false, eqb, Some, None, List, [], ◌∷◌, length, get_or, refl, sym, ap, ◌∙◌, subst, arith}
 use Rattle.std.specs.List.{find, filter}
 use Rattle.std.proofs.lemmas.Bool.{cases_Bool, eq-eqb, eqb-true, ne_eqb, false≢true}
 use Rattle.std.proofs.lemmas.List.{get_or-map, length-map}
 use Rattle.block_links.specs.Lists.{Lists, times, list_at}
-use Rattle.block_links.proofs.Times.{times-head, times-tail}
+use Rattle.block_links.proofs.Times.{times-head}
 use Rattle.rssd_queue.specs.declared.ask.Tagged.{Tagged}
 use Rattle.rssd_queue.specs.Asks.{sector_of, is_read}
 use Rattle.rssd_queue.specs.Waiting.{command_at, no_command}
 use Rattle.rssd_queue.specs.Pick.{IsFree, NoneFree, IsFirstFree, sector_at}
-use Rattle.rssd_queue.specs.Kept.{HasChains, in_node, sector_in, commands_in, of_sector, is_free_node}
+use Rattle.rssd_queue.specs.Kept.{HasChains, in_node, sector_in, commands_in, is_free_node}
 
 -- ---- the first that passes a test
 

@@ -1,5 +1,5 @@
 -- The place of a waiting command falls at least once in 33 serves, and a full queue has no read that could pass the last command.
-use Rattle.std.proofs.Common.{◌≡◌, ℕ, suc, ◌+◌, ◌-◌, ◌*◌, ◌<◌, ◌≤◌, inl, inr, List, [], ◌∷◌, ◌++◌, length, remove, get_or, refl, sym, ap, ◌∙◌, subst, arith, length-append}
+use Rattle.std.proofs.Common.{◌≡◌, ℕ, suc, ◌+◌, ◌-◌, ◌*◌, ◌<◌, ◌≤◌, inl, inr, List, [], ◌∷◌, ◌++◌, length, refl, sym, ap, ◌∙◌, subst, arith, length-append}
 use Rattle.std.specs.List.{Contains}
 use Rattle.std.proofs.lemmas.Bool.{cases_eq, cases_lt, eq-eqb, ne_eqb}
 use Rattle.std.proofs.lemmas.List.{get_or_append_left}
@@ -8,7 +8,7 @@ use Rattle.std.proofs.lemmas.List.Edits.{get_or-remove_below, get_or-remove_abov
 use Rattle.rssd_queue.specs.declared.ask.Tagged.{Tagged}
 use Rattle.rssd_queue.specs.Waiting.{Waiting, Accepts, accepted, command_at, no_command}
 use Rattle.rssd_queue.specs.Pick.{Takes, IsPick, passed_after}
-use Rattle.rssd_queue.specs.Runs.{State, Event, Put, RefusedPut, Served, FoundNone, IsNew, IsRun, accepted_in, served_in, serves, ServedInTime}
+use Rattle.rssd_queue.specs.Runs.{State, Event, Put, RefusedPut, Served, FoundNone, IsRun, served_in, serves, ServedInTime}
 
 -- a command that is served first, or among the later ones
 contains_first : (c d : Tagged) (xs : List Tagged) → c ≡ d → Contains (c ∷ xs) d
@@ -113,7 +113,8 @@ full_in_time (Served c answer ∷ es) first last d stands full (next, (t, a), ru
 
 module _ (size : ℕ) (c : Tagged) (after : List Event) (enough : 1024 ≤ serves after) where
   -- from the put on
-  from_put : (first next last : State) → first.queue.sector_bytes ≡ size → first.queue.passed ≤ 32 → Accepts first.queue c next.queue → IsRun next after last → Contains (served_in after) (accepted size c)
+  from_put : (first next last : State) → first.queue.sector_bytes ≡ size → first.queue.passed ≤ 32 → Accepts first.queue c next.queue → IsRun next after last
+      → Contains (served_in after) (accepted size c)
   from_put first next last is few a run =
       let p : ℕ = length first.queue.commands in
       let new : Tagged = accepted first.queue.sector_bytes c in
@@ -131,7 +132,8 @@ module _ (size : ℕ) (c : Tagged) (after : List Event) (enough : 1024 ≤ serve
       ] in
       subst (λ (n : ℕ). Contains (served_in after) (accepted n c)) is served
 
-  to_put : (before : List Event) (first last : State) → first.queue.sector_bytes ≡ size → first.queue.passed ≤ 32 → IsRun first (before ++ Put c ∷ after) last → Contains (served_in after) (accepted size c)
+  to_put : (before : List Event) (first last : State) → first.queue.sector_bytes ≡ size → first.queue.passed ≤ 32 → IsRun first (before ++ Put c ∷ after) last
+      → Contains (served_in after) (accepted size c)
   to_put [] first last is few (next, (a, rows), run) = from_put first next last is few a run
   to_put (Put d ∷ before) first last is few (next, (a, rows), run) =
       to_put before next last (ap (λ q. q.sector_bytes) a.last ∙ is) (let e = ap (λ q. q.passed) a.last in omega arith) run

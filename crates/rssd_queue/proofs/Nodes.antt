@@ -1,7 +1,7 @@
 -- A node moves from one list of the order to its back, or to the back of the other list: the two lists have each node once.
-use Rattle.std.proofs.Common.{◌≡◌, ℕ, zero, suc, ◌+◌, ◌<◌, ◌≤◌, inl, inr, List, [], ◌∷◌, ◌++◌, length, drop, get_or, refl, sym, ap, ◌∙◌, subst, arith, length-append}
+use Rattle.std.proofs.Common.{◌≡◌, ℕ, ◌+◌, ◌<◌, ◌≤◌, inl, inr, List, [], ◌∷◌, ◌++◌, length, drop, refl, sym, ap, ◌∙◌, subst, arith, length-append}
 use Rattle.std.proofs.lemmas.Bool.{cases_eq, eq-eqb, ne_eqb}
-use Rattle.block_links.specs.Lists.{Lists, times, without, list_at, appended, removed, IsFree, IsListed, IsFront}
+use Rattle.block_links.specs.Lists.{Lists, times, without, appended, removed, IsListed, IsFront}
 use Rattle.block_links.proofs.Times.{times-append, times-head, times-tail, times-without_same, times-without_other, without_absent}
 use Rattle.rssd_queue.specs.Kept.{HasNodes, order_in, unused_in}
 

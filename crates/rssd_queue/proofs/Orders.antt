@@ -1,6 +1,6 @@
 -- Over a run, what waits and what is still accepted is what is served and what waits at last: of each sector in order, and all
 -- together as often.
-use Rattle.std.proofs.Common.{◌≡◌, ℕ, ◌<◌, inl, inr, Bool, true, false, eqb, List, [], ◌∷◌, ◌++◌, length, remove, get_or, refl, sym, ap, ◌∙◌, subst, append_assoc}
+use Rattle.std.proofs.Common.{◌≡◌, ℕ, inl, inr, eqb, List, [], ◌∷◌, ◌++◌, remove, refl, sym, ap, ◌∙◌, subst, append_assoc}
 use Rattle.std.proofs.lemmas.Bool.{cases_Bool}
 use Rattle.std.proofs.lemmas.List.{append-nil, get_or_default}
 use Rattle.std.proofs.lemmas.List.Elements.{filter-append}
@@ -9,8 +9,7 @@ use Rattle.std.proofs.lemmas.List.Sorted.{IsPermutation-refl, IsPermutation-tran
 use Rattle.rssd_queue.specs.declared.ask.Tagged.{Tagged}
 use Rattle.rssd_queue.specs.Asks.{sector_of}
 use Rattle.rssd_queue.specs.Waiting.{Waiting, Accepts, accepted, no_command}
-use Rattle.rssd_queue.specs.Pick.{Takes}
-use Rattle.rssd_queue.specs.Runs.{State, Event, Put, RefusedPut, Served, FoundNone, IsNew, IsRun, accepted_in, served_in, about, AnsweredOnce, SectorsInOrder}
+use Rattle.rssd_queue.specs.Runs.{State, Event, Put, RefusedPut, Served, FoundNone, IsRun, accepted_in, served_in, about, AnsweredOnce, SectorsInOrder}
 use Rattle.rssd_queue.proofs.Taken.{about-taken}
 
 pub about-append : (s : ℕ) (xs ys : List Tagged) → about s (xs ++ ys) ≡ about s xs ++ about s ys

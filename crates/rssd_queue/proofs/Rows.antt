@@ -1,5 +1,5 @@
 -- A row after some commands depends on those of its sector alone; so a read finds the row of the order of acceptance.
-use Rattle.std.proofs.Common.{◌≡◌, ◌≢◌, ℕ, ◌<◌, inl, inr, Bool, true, false, eqb, List, [], ◌∷◌, ◌++◌, length, replicate, remove, set, get_or, refl, sym, ap, ◌∙◌, subst, get_or-set_same, get_or-set_other, length-set, arith}
+use Rattle.std.proofs.Common.{◌≡◌, ℕ, ◌<◌, inl, inr, Bool, true, false, eqb, List, [], ◌∷◌, ◌++◌, length, replicate, remove, set, refl, sym, ap, ◌∙◌, subst, get_or-set_same, get_or-set_other, length-set, arith}
 use Rattle.std.specs.List.{filter, AllByRecursion}
 use Rattle.std.proofs.lemmas.Bool.{cases_Bool, cases_eq, cases_lt, eq-eqb, false≢true}
 use Rattle.std.proofs.lemmas.List.{get_or_past}
@@ -7,11 +7,9 @@ use Rattle.std.proofs.lemmas.List.Elements.{recursion_from_All}
 use Rattle.rssd_queue.specs.declared.ask.Ask.{Ask}
 use Rattle.rssd_queue.specs.declared.ask.Ask.TheVariants.{Write, Read, Trim}
 use Rattle.rssd_queue.specs.declared.ask.Tagged.{Tagged}
-use Rattle.rssd_queue.specs.declared.serve.Answer.{Answer}
 use Rattle.rssd_queue.specs.declared.serve.Answer.TheVariants.{Bytes}
 use Rattle.rssd_queue.specs.Asks.{sector_of}
-use Rattle.rssd_queue.specs.Waiting.{accepted}
-use Rattle.rssd_queue.specs.Runs.{State, Event, Put, RefusedPut, Served, FoundNone, IsNew, IsRun, NotRefused, AnswersOf, accepted_in, served_in, about, row_of, carried, carried_out, ReadInOrder, ReadsInOrder}
+use Rattle.rssd_queue.specs.Runs.{State, Event, Put, RefusedPut, Served, FoundNone, IsRun, NotRefused, AnswersOf, accepted_in, served_in, about, row_of, carried, carried_out, ReadsInOrder}
 use Rattle.rssd_queue.proofs.Taken.{about-taken}
 use Rattle.rssd_queue.proofs.Orders.{about-append, about-cons, after_put}
 
@@ -44,10 +42,12 @@ row-carried_agrees size xs ys (Read sector) s long same = same
 row-carried_agrees size xs ys (Trim sector) s long same = row_set_agrees xs ys sector s (replicate size 0) long same
 
 -- arrays that agree at a sector do so after the same commands
-row-carried_out_agrees : (size s : ℕ) (cs : List Tagged) (xs ys : List (List ℕ)) → length xs ≡ length ys → row_of xs s ≡ row_of ys s → row_of (carried_out size xs cs) s ≡ row_of (carried_out size ys cs) s
+row-carried_out_agrees : (size s : ℕ) (cs : List Tagged) (xs ys : List (List ℕ)) → length xs ≡ length ys → row_of xs s ≡ row_of ys s
+    → row_of (carried_out size xs cs) s ≡ row_of (carried_out size ys cs) s
 row-carried_out_agrees size s [] xs ys long same = same
 row-carried_out_agrees size s (c ∷ cs) xs ys long same =
-    row-carried_out_agrees size s cs (carried size xs c.ask) (carried size ys c.ask) (length-carried size xs c.ask ∙ long ∙ sym (length-carried size ys c.ask)) (row-carried_agrees size xs ys c.ask s long same)
+    row-carried_out_agrees size s cs (carried size xs c.ask) (carried size ys c.ask) (length-carried size xs c.ask ∙ long ∙ sym (length-carried size ys c.ask))
+    (row-carried_agrees size xs ys c.ask s long same)
 
 -- the row after some commands is that after those of its sector
 pub row-about : (size s : ℕ) (cs : List Tagged) (rows : List (List ℕ)) → row_of (carried_out size rows cs) s ≡ row_of (carried_out size rows (about s cs)) s
@@ -55,7 +55,8 @@ row-about size s [] rows = refl
 row-about size s (c ∷ cs) rows = elim (cases_Bool (eqb (sector_of c.ask) s)) [
   | inl here ↦ rw here (row-about size s cs (carried size rows c.ask))
   | inr there ↦ rw there (row-about size s cs (carried size rows c.ask)
-      ∙ row-carried_out_agrees size s (about s cs) (carried size rows c.ask) rows (length-carried size rows c.ask) (row-carried_other size rows c.ask s (λ same. false≢true (sym there ∙ eq-eqb (sector_of c.ask) s (sym same)))))
+      ∙ row-carried_out_agrees size s (about s cs) (carried size rows c.ask) rows (length-carried size rows c.ask)
+      (row-carried_other size rows c.ask s (λ same. false≢true (sym there ∙ eq-eqb (sector_of c.ask) s (sym same)))))
 ]
 
 -- a list whose filter has an element after some others is cut at that element

@@ -1,9 +1,9 @@
 -- The pick is the first command of its sector, so a sector's commands keep their order when it is taken out.
-use Rattle.std.proofs.Common.{◌≡◌, ◌≢◌, ℕ, zero, suc, ◌<◌, inl, inr, Bool, true, false, eqb, List, [], ◌∷◌, length, remove, get_or, refl, sym, ap, ◌∙◌, arith}
+use Rattle.std.proofs.Common.{◌≡◌, ◌≢◌, ℕ, zero, suc, ◌<◌, inl, inr, eqb, List, [], ◌∷◌, length, remove, refl, sym, ap, ◌∙◌, arith}
 use Rattle.std.proofs.lemmas.Bool.{cases_Bool, eqb-true, ne_eqb}
 use Rattle.rssd_queue.specs.declared.ask.Tagged.{Tagged}
 use Rattle.rssd_queue.specs.Asks.{sector_of}
-use Rattle.rssd_queue.specs.Waiting.{Waiting, command_at, no_command}
+use Rattle.rssd_queue.specs.Waiting.{Waiting, command_at}
 use Rattle.rssd_queue.specs.Pick.{IsPick, Takes, sector_at}
 use Rattle.rssd_queue.specs.Runs.{about}
 

@@ -1,11 +1,10 @@
 -- All nodes become unused, one by one.
-use Rattle.std.proofs.Common.{◌≡◌, ℕ, zero, suc, ◌+◌, ◌<◌, ◌≤◌, inl, inr, List, [], ◌∷◌, ◌++◌, length, refl, sym, ap, ◌∙◌, subst, arith, length-append}
+use Rattle.std.proofs.Common.{◌≡◌, ℕ, zero, suc, ◌+◌, ◌<◌, ◌≤◌, inl, inr, [], ◌∷◌, ◌++◌, length, refl, sym, ap, ◌∙◌, subst, arith, length-append}
 use Rattle.std.proofs.lemmas.Bool.{cases_eq, cases_lt}
 use Rattle.std.proofs.lemmas.List.{get_or_past}
 use Rattle.block_links.specs.Lists.{Lists, times, list_at, appended, IsFree}
 use Rattle.block_links.proofs.Times.{times-append, times-head, times-tail}
 use Rattle.rssd_queue.specs.Kept.{HasNodes, order_in, unused_in}
-use Rattle.rssd_queue.proofs.Nodes.{with_lists}
 
 -- the nodes below this one are unused
 pub record IsUnusedBelow (o : Lists) (n : ℕ) : Type 0 where

@@ -1,7 +1,7 @@
 -- What the one call of a device for a command leaves, by its answer.
-use Rattle.std.specs.Prelude.{◌≡◌, ℕ, ◌^◌, ◌<◌, ◌≤◌, true, false, List, [], slice_index_or}
+use Rattle.std.specs.Prelude.{◌≡◌, ℕ, ◌^◌, ◌≤◌, true, false, List, [], slice_index_or}
 use Rattle.cell_die.specs.Calls.{Passed, ReadFailed}
-use Rattle.rssd_core.specs.declared.device.FtlError.TheVariants.{BadSector, Stopped, DieFault, Spent}
+use Rattle.rssd_core.specs.declared.device.FtlError.TheVariants.{Stopped, DieFault, Spent}
 use Rattle.rssd_core.specs.DeviceValue.{Numbers, DeviceValue, rows_of}
 use Rattle.rssd_core.specs.Outcomes.{Holds, Wrote, WriteFault, Trimmed, TrimFault, OnlyDie}
 use Rattle.rssd_core.specs.Within.{sector_reads}

@@ -1,8 +1,7 @@
 -- A queue run: a list of puts and serves over a queue and a sector array, and what is true of all of them.
-use Rattle.std.specs.Prelude.{◌≡◌, ℕ, ◌+◌, ◌<◌, ◌≤◌, ◌==◌, Bool, true, false, List, [], ◌∷◌, ◌++◌, length, replicate, slice_set, slice_index_or}
+use Rattle.std.specs.Prelude.{◌≡◌, ℕ, ◌+◌, ◌≤◌, ◌==◌, Bool, true, false, List, [], ◌∷◌, ◌++◌, replicate, slice_set, slice_index_or}
 use Rattle.std.specs.List.{filter, All, Contains}
 use Rattle.std.specs.List.Sorted.{IsPermutation}
-use Rattle.rssd_core.specs.declared.device.FtlError.{FtlError}
 use Rattle.rssd_queue.specs.declared.ask.Ask.{Ask}
 use Rattle.rssd_queue.specs.declared.ask.Ask.TheVariants.{Write, Read, Trim}
 use Rattle.rssd_queue.specs.declared.ask.Tagged.{Tagged}

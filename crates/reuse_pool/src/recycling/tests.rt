@@ -15,6 +15,26 @@ enum Call {
     Pass,
 }
 
+const CLEAN: State = State::Clean;
+
+const REUSED: State = State::Reused;
+
+const BLANK: State = State::Spare { blank: true };
+
+const UNERASED: State = State::Spare { blank: false };
+
+fn active(fill: u32) -> State {
+    State::Active { fill }
+}
+
+fn used(level: u32) -> State {
+    State::Used { level }
+}
+
+fn recycled(level: u32, next: u32) -> State {
+    State::Recycled { level, next }
+}
+
 /// Whether the numbers of a state fit 4 pages, 2 units and 3 generations.
 fn fits(state: State) -> bool
     ensures { IsTrue result → InRange 4 2 3 state }
@@ -30,79 +50,23 @@ fn fits(state: State) -> bool
 #[test]
 fn states_change_by_the_rows_of_the_table(rt: HostRuntime) -> Result<(), Fail> {
     let rows = [
-        (State::Clean, Call::SetState, State::Active { fill: 0 }),
-        (
-            State::Used { level: 1 },
-            Call::SetState,
-            State::Active { fill: 0 },
-        ),
-        (
-            State::Recycled { level: 1, next: 1 },
-            Call::SetState,
-            State::Active { fill: 0 },
-        ),
-        (State::Reused, Call::SetState, State::Active { fill: 0 }),
-        (
-            State::Active { fill: 1 },
-            Call::SetState,
-            State::Active { fill: 2 },
-        ),
-        (
-            State::Active { fill: 3 },
-            Call::Close,
-            State::Used { level: 0 },
-        ),
-        (
-            State::Used { level: 0 },
-            Call::RecycleDue,
-            State::Recycled { level: 1, next: 0 },
-        ),
-        (
-            State::Used { level: 1 },
-            Call::RecycleDue,
-            State::Recycled { level: 2, next: 0 },
-        ),
-        (
-            State::Recycled { level: 2, next: 0 },
-            Call::Pass,
-            State::Recycled { level: 2, next: 1 },
-        ),
-        (
-            State::Recycled { level: 1, next: 1 },
-            Call::Pass,
-            State::Used { level: 1 },
-        ),
-        (
-            State::Recycled { level: 2, next: 1 },
-            Call::Pass,
-            State::Reused,
-        ),
-        (
-            State::Spare { blank: true },
-            Call::SetState,
-            State::Active { fill: 2 },
-        ),
-        (
-            State::Used { level: 0 },
-            Call::SetState,
-            State::Spare { blank: false },
-        ),
-        (
-            State::Recycled { level: 1, next: 0 },
-            Call::SetState,
-            State::Spare { blank: false },
-        ),
-        (State::Reused, Call::SetState, State::Spare { blank: false }),
-        (
-            State::Spare { blank: false },
-            Call::SetState,
-            State::Spare { blank: true },
-        ),
-        (
-            State::Spare { blank: true },
-            Call::SetState,
-            State::Spare { blank: false },
-        ),
+        (CLEAN, Call::SetState, active(0)),
+        (used(1), Call::SetState, active(0)),
+        (recycled(1, 1), Call::SetState, active(0)),
+        (REUSED, Call::SetState, active(0)),
+        (active(1), Call::SetState, active(2)),
+        (active(3), Call::Close, used(0)),
+        (used(0), Call::RecycleDue, recycled(1, 0)),
+        (used(1), Call::RecycleDue, recycled(2, 0)),
+        (recycled(2, 0), Call::Pass, recycled(2, 1)),
+        (recycled(1, 1), Call::Pass, used(1)),
+        (recycled(2, 1), Call::Pass, REUSED),
+        (BLANK, Call::SetState, active(2)),
+        (used(0), Call::SetState, UNERASED),
+        (recycled(1, 0), Call::SetState, UNERASED),
+        (REUSED, Call::SetState, UNERASED),
+        (UNERASED, Call::SetState, BLANK),
+        (BLANK, Call::SetState, UNERASED),
     ];
     for (from, call, to) in rows {
         let mut book = Book::new(rt.alloc(), 1, 4, 2, 3)?;

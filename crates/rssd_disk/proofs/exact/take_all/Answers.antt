@@ -12,15 +12,18 @@ loop-at-init g c = record { within = omega arith; took = takes_none (g.I.Source.
 
 pub loop-at-preserved : goal.loop-at-preserved
 loop-at-preserved g c =
-    let room : length c.take.new.into ≡ length c.loop-at.into - c.loop-at.at = c.take.auto.into ∙ length-take (length c.loop-at.into - c.loop-at.at) (drop c.loop-at.at c.loop-at.into) ∙ omega (arith, length-drop c.loop-at.at c.loop-at.into) in
+    let room : length c.take.new.into ≡ length c.loop-at.into - c.loop-at.at = c.take.auto.into ∙ length-take (length c.loop-at.into - c.loop-at.at) (drop c.loop-at.at c.loop-at.into)
+    ∙ omega (arith, length-drop c.loop-at.at c.loop-at.into) in
     record {
       within = omega (arith, c.in-Ok.ensures.bound, room, c.loop-at.auto.into);
-      took = takes_more (g.I.Source.log c.args.from.now) (g.I.Source.log c.loop-at.from) (g.I.Source.log c.take.new.self) c.loop-at.into c.take.new.into c.loop-at.at (length c.loop-at.into - c.loop-at.at) c.in-Ok.count
+      took = takes_more (g.I.Source.log c.args.from.now) (g.I.Source.log c.loop-at.from) (g.I.Source.log c.take.new.self) c.loop-at.into c.take.new.into
+          c.loop-at.at (length c.loop-at.into - c.loop-at.at) c.in-Ok.count
           (omega arith) (omega (arith, c.in-Ok.ensures.bound)) c.loop-at.invariant.took c.in-Ok.ensures.log;
     }
 
 pub returns-clause-taken : goal.returns-clause-taken
-returns-clause-taken g c = subst (λ (l : List ℕ). Takes (g.I.Source.log c.args.from.now) (g.I.Source.log c.loop-at.from) l) (take_all c.loop-at.at c.loop-at.into (omega arith)) c.loop-at.invariant.took
+returns-clause-taken g c = subst (λ (l : List ℕ). Takes (g.I.Source.log c.args.from.now) (g.I.Source.log c.loop-at.from) l) (take_all c.loop-at.at c.loop-at.into (omega arith))
+    c.loop-at.invariant.took
 
 pub returns-in-Ok-eq0-clause-stopped : goal.returns-in-Ok-eq0-clause-stopped
 returns-in-Ok-eq0-clause-stopped g c =

@@ -19,5 +19,6 @@ returns-clause-ends g c =
       taken = c.in_ok-flags.ensures.taken;
       known = c.in_ok-flags.ensures.known;
     } in
-    IfErr-weaker c.answer_options.result (λ ended. EndsOn c.args.size c.in_ok-flags.flags ended taken left greeted given) (λ ended. EndsHandshake c.args.size ended from left to given) (λ ended ends. at_option greets ends)
+    IfErr-weaker c.answer_options.result (λ ended. EndsOn c.args.size c.in_ok-flags.flags ended taken left greeted given) (λ ended. EndsHandshake c.args.size ended from left to given)
+    (λ ended ends. at_option greets ends)
     c.answer_options.ensures.ends

@@ -17,7 +17,8 @@ returns-in_err-answer-2-clause-stops g c =
     let second : List (List ℕ) = said c.args.kind Told (lengths_bytes (export_of c.args.size)) in
     let third : List (List ℕ) = said c.args.kind Acknowledged [] in
     let gave : Gives first old mid = subst (λ (l : List ℕ). Gives (said c.args.kind Told l) old mid) (c.encode_size.ensures ∙ ap size_bytes c.export_of-export.ensures) c.in_ok-answer.ensures.gave in
-    let stops : StopsAt second mid new = subst (λ (l : List ℕ). StopsAt (said c.args.kind Told l) mid new) (c.encode_lengths.ensures ∙ ap lengths_bytes c.export_of-export.ensures) c.in_err-answer-2.ensures.stops in
+    let stops : StopsAt second mid new = subst (λ (l : List ℕ). StopsAt (said c.args.kind Told l) mid new) (c.encode_lengths.ensures ∙ ap lengths_bytes c.export_of-export.ensures)
+    c.in_err-answer-2.ensures.stops in
     let told : StopsAt (choice_told c.args.kind c.args.size) old new = stops_behind first (second ++ third) gave (stops_front second third stops) in
     if_err c.from_residual-in_err-answer-2.result told
 
@@ -31,5 +32,6 @@ returns-clause-stops g c =
     let second : List (List ℕ) = said c.args.kind Told (lengths_bytes (export_of c.args.size)) in
     let third : List (List ℕ) = said c.args.kind Acknowledged [] in
     let gave : Gives first old mid = subst (λ (l : List ℕ). Gives (said c.args.kind Told l) old mid) (c.encode_size.ensures ∙ ap size_bytes c.export_of-export.ensures) c.in_ok-answer.ensures.gave in
-    let more : Gives second mid most = subst (λ (l : List ℕ). Gives (said c.args.kind Told l) mid most) (c.encode_lengths.ensures ∙ ap lengths_bytes c.export_of-export.ensures) c.in_ok-answer-2.ensures.gave in
+    let more : Gives second mid most = subst (λ (l : List ℕ). Gives (said c.args.kind Told l) mid most) (c.encode_lengths.ensures ∙ ap lengths_bytes c.export_of-export.ensures)
+    c.in_ok-answer-2.ensures.gave in
     if_err_map c.answer-3.result (λ (s : StopsAt third most new). stops_behind first (second ++ third) gave (stops_behind second third more s)) c.answer-3.ensures.stops

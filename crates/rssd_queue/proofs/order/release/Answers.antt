@@ -1,5 +1,4 @@
-use Rattle.std.proofs.Common.{◌≡◌, sym, subst, arith}
-use Rattle.block_links.specs.Lists.{Lists}
+use Rattle.std.proofs.Common.{sym, subst, arith}
 use Rattle.rssd_queue.specs.Kept.{HasNodes}
 use Rattle.rssd_queue.proofs.Nodes.{to_unused, has_freed, order_listed, order_within, order_removed}
 use Rattle.rssd_queue.proofs.order.release.Goals as goal

@@ -1,6 +1,5 @@
 -- Fewer than 32 nodes are in the order, so one is unused.
-use Rattle.std.proofs.Common.{◌≡◌, sym, ap, subst, arith, length}
-use Rattle.block_links.specs.Lists.{Lists}
+use Rattle.std.proofs.Common.{sym, subst, arith}
 use Rattle.rssd_queue.specs.Kept.{HasNodes}
 use Rattle.rssd_queue.proofs.Nodes.{to_order, has_used, unused_listed, unused_within, unused_removed, front_stands}
 use Rattle.rssd_queue.proofs.order.take_unused.Goals as goal

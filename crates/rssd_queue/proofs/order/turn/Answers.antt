@@ -1,5 +1,5 @@
 -- The front stands once in the order, so it leaves the rest.
-use Rattle.std.proofs.Common.{◌≡◌, ℕ, ◌<◌, ◌≤◌, ◌∷◌, ◌++◌, [], sym, ap, ◌∙◌, subst, arith}
+use Rattle.std.proofs.Common.{◌≤◌, ◌∷◌, ◌++◌, [], sym, ap, ◌∙◌, subst, arith}
 use Rattle.block_links.specs.Lists.{Lists, times}
 use Rattle.rssd_queue.specs.Kept.{HasNodes, order_in, unused_in}
 use Rattle.rssd_queue.proofs.Nodes.{to_back, has_turned, order_listed, order_within, order_removed, front_stands, without-front}

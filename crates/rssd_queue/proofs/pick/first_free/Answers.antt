@@ -1,11 +1,10 @@
 -- One more node went to the back, and was looked at.
-use Rattle.std.proofs.Common.{◌≡◌, ℕ, ◌<◌, ◌∷◌, ◌++◌, [], length, take, get_or, sym, ap, ◌∙◌, subst, arith}
+use Rattle.std.proofs.Common.{ℕ, ◌<◌, ◌∷◌, [], length, take, get_or, sym, ap, ◌∙◌, arith}
 use Rattle.std.specs.List.{find}
 use Rattle.std.specs.Option.{option_or}
 use Rattle.std.proofs.lemmas.List.{take_more}
 use Rattle.std.proofs.lemmas.List.Folds.{find-append}
-use Rattle.block_links.specs.Lists.{times}
-use Rattle.rssd_queue.specs.Kept.{order_in, sector_in, is_free_node}
+use Rattle.rssd_queue.specs.Kept.{order_in, is_free_node}
 use Rattle.rssd_queue.proofs.FreeReads.{stands_at}
 use Rattle.rssd_queue.proofs.Turning.{turned_node, turned_more}
 use Rattle.rssd_queue.proofs.pick.first_free.Goals as goal

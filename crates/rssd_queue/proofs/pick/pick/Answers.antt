@@ -1,5 +1,5 @@
 -- The first free node holds the first free read; where there is none, the front of the order holds the oldest.
-use Rattle.std.proofs.Common.{◌≡◌, ℕ, ◌+◌, ◌<◌, ◌≤◌, inl, inr, refl, sym, ◌∙◌, arith}
+use Rattle.std.proofs.Common.{ℕ, ◌≤◌, inl, inr, refl, sym, arith}
 use Rattle.block_links.specs.Lists.{times}
 use Rattle.rssd_queue.specs.Kept.{order_in}
 use Rattle.rssd_queue.proofs.FreeReads.{found_is, none_is}

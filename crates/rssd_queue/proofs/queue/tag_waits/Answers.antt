@@ -1,5 +1,5 @@
 -- Each node of the order is below 32, and was looked at.
-use Rattle.std.proofs.Common.{◌≡◌, ℕ, ◌+◌, ◌<◌, sym, ap, ◌∙◌, arith}
+use Rattle.std.proofs.Common.{sym, ap, ◌∙◌, arith}
 use Rattle.std.proofs.lemmas.List.{get_or_default}
 use Rattle.rssd_queue.specs.Waiting.{no_command}
 use Rattle.rssd_queue.specs.Kept.{order_in}

@@ -1,10 +1,9 @@
 -- The picked node goes from the order and its chain to the unused ones.
-use Rattle.std.proofs.Common.{◌≡◌, ℕ, ◌+◌, ◌-◌, ◌<◌, ◌∷◌, ◌++◌, [], List, length, cond, remove, set, get_or, sym, ap, ◌∙◌, subst, arith}
+use Rattle.std.proofs.Common.{◌≡◌, ℕ, ◌+◌, ◌-◌, List, cond, set, sym, ap, ◌∙◌, subst, arith}
 use Rattle.std.proofs.lemmas.List.{get_or_default, get_or-map, length-map}
-use Rattle.block_links.specs.Lists.{Lists, times}
+use Rattle.block_links.specs.Lists.{Lists}
 use Rattle.rssd_queue.specs.declared.ask.Tagged.{Tagged}
-use Rattle.rssd_queue.specs.Waiting.{no_command, command_at, IsAsked}
-use Rattle.rssd_queue.specs.Pick.{passed_after}
+use Rattle.rssd_queue.specs.Waiting.{no_command, IsAsked}
 use Rattle.rssd_queue.specs.Kept.{IsPickedNode, in_node, commands_in, order_in}
 use Rattle.rssd_queue.proofs.Fields.{kept_taken, picked_waits, picked_within, picked_listed, picked_asked, place_zero, commands_left}
 use Rattle.rssd_queue.proofs.queue.Queue.next.Goals as goal
