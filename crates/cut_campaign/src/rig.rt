@@ -7,7 +7,7 @@ use crate::sectors::Sectors;
 use crate::stop::{Stop, Wrong, ensure};
 use cell_die::{PowerDie, Shape, Torn};
 use mem_die::{DieRefusal, MemDie};
-use rssd_core::{Ftl, FtlError, MountError, Placed, Plan, mount};
+use rssd_core::{Device, Ftl, FtlError, MountError, Placed, Plan, PowerDevice, mount};
 use std::alloc::Global;
 use striped::Scheme;
 
