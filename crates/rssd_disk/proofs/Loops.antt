@@ -100,7 +100,8 @@ module _ {place done : ℕ} {part : Part} (all : List ℕ) {old mid : DeviceValu
   step_fails at_sector second =
       let of_old : PartFails old.numbers (place_of old.numbers part) (part_of done part.count all) mid new
       = subst (λ (n : Numbers). PartFails n (place_of n part) (part_of done part.count all) mid new) first.keeps.numbers second in
-      let there : PartFails old.numbers (place + done) (part_of done part.count all) mid new = subst (λ (p : ℕ). PartFails old.numbers p (part_of done part.count all) mid new) next_of_old.begins of_old in
+      let there : PartFails old.numbers (place + done) (part_of done part.count all) mid new
+      = subst (λ (p : ℕ). PartFails old.numbers p (part_of done part.count all) mid new) next_of_old.begins of_old in
       record {
         keeps = keeps_trans first.keeps there.keeps;
         front = λ sound. elim (there.either (first.keeps.sound sound)) [

@@ -38,7 +38,8 @@ returns-in_err-put_part-clause-fault g c =
 pub loop-done-preserved : goal.loop-done-preserved
 loop-done-preserved g c = record {
   within = c.next_part-part.ensures.within;
-  put = step_put (bytes_in c.args.bytes.now) (g.F.Device.device c.put_part.new.ftl) c.requires.within c.loop-done.invariant.put (rw c.count-count.ensures at c.next_part-part.ensures) c.in_ok-put_part.ensures.put;
+  put = step_put (bytes_in c.args.bytes.now) (g.F.Device.device c.put_part.new.ftl) c.requires.within c.loop-done.invariant.put (rw c.count-count.ensures at c.next_part-part.ensures)
+      c.in_ok-put_part.ensures.put;
   at_sector = λ some below. (subst (λ (n : Numbers). IsNext n c.args.place c.count-count.result c.loop-done.done c.next_part-part.result) c.loop-done.invariant.put.keeps.numbers
       c.next_part-part.ensures).to_end below;
 }

@@ -23,7 +23,8 @@ returns g c =
     let count : ℕ = c.data_length-count.result in
     let after : List ℕ = c.answer-error.new.bytes in
     let asks : Asks g.K.Disk.answers c.args.disk.now c.answer-error.new.self (g.I.Source.log c.args.from.now) (g.I.Source.log c.take_behind.new.from)
-    = asks_of g.K.Disk.answers c.args.disk.now c.answer-error.new.self count room after c.answer-error.result c.in_ok-request.ensures.spelled c.in_ok-request.ensures.taken c.in_ok-take_behind.ensures.brings
+    = asks_of g.K.Disk.answers c.args.disk.now c.answer-error.new.self count room after c.answer-error.result c.in_ok-request.ensures.spelled c.in_ok-request.ensures.taken
+    c.in_ok-take_behind.ensures.brings
     c.data_length-count.ensures.length c.data_length-count.ensures.few (c.take_behind.auto.room ∙ c.requires.room) c.answer-error.auto.bytes c.answer-error.ensures.answered in
     let there : c.has_power.result ≡ true = search rules in
     let told = put_mid_part (16 + count - 16) (data_length c.in_ok-request.request) room after (omega (arith, c.take_behind.auto.room, c.requires.room)) asks.long in
