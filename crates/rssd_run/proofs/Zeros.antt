@@ -1,8 +1,9 @@
 -- Bytes without the zeros at their end.
 use Rattle.std.proofs.Common.{◌≡◌, ◌≢◌, ℕ, ◌+◌, ◌-◌, ◌<◌, ◌≤◌, zero, suc, List, [], ◌∷◌, ◌++◌, length, take, false, refl, ◌∙◌, sym, ap, arith, get_or, inl, inr, eq-eqb}
 use Rattle.std.proofs.lemmas.List.{take_more}
-use Rattle.std.proofs.lemmas.Bool.{ne_eqb, cases_eq}
-use Rattle.std.specs.Prelude.{if◌then◌else◌, ◌&&◌, ◌==◌}
+use Rattle.std.proofs.lemmas.Bool.{ne_eqb, cases_eq, and_parts}
+use Rattle.std.specs.Prelude.{if◌then◌else◌, ◌&&◌, ◌==◌, Bool, true}
+use Rattle.cell_bits.specs.Cells.{is_blank}
 use Rattle.rssd_script.specs.Text.{IsTrimmed}
 use Rattle.rssd_core.specs.SectorArray.{is_empty, unless_zeros, without_zeros}
 
@@ -18,6 +19,14 @@ zeros_step bytes count some within is_zero =
     ap (λ n. without_zeros (take n bytes)) one
     ∙ (ap without_zeros (take_more bytes (count - 1) 0 within ∙ ap (λ byte. take (count - 1) bytes ++ byte ∷ []) is_zero)
     ∙ zero_at_end (take (count - 1) bytes))
+
+-- of zeros alone nothing stays
+pub zeros_alone : (zeros : List ℕ) → is_blank zeros ≡ true → without_zeros zeros ≡ []
+zeros_alone [] blank = refl
+zeros_alone (byte ∷ bytes) blank =
+    let parts = and_parts (byte == 0) (is_blank bytes) blank in
+    ap (unless_zeros byte) (zeros_alone bytes parts.1)
+    ∙ ap (λ (test : Bool). if test then [] else byte ∷ []) parts.0
 
 -- bytes that end with one that is not zero stay
 not_empty : (bytes : List ℕ) (last : ℕ) → is_empty (bytes ++ last ∷ []) ≡ false

@@ -38,12 +38,12 @@ pub trait Stepping {
     /// All that contracts see of a session.
     ghost session: { Self → SessionValue };
 
-    /// Answers a line. Only the line `mount` takes memory.
-    fn step(&mut self, alloc: Global, line: &Line) -> Reply
+    /// Puts the answer to a line in the place of what stands in `reply`. Only the line `mount` takes memory.
+    fn step(&mut self, alloc: Global, line: &Line, reply: &mut Reply)
         requires { CanStep line.now }
         ensures numbers { (d : Numbers) → HasNumbers d (session self.old).holding → HasNumbers d (session self.new).holding }
-        ensures step { (d : Numbers) → HasNumbers d (session self.old).holding → StepsSession d line.now result (session self.old) (session self.new) }
-        ensures answers { (d : Numbers) → HasNumbers d (session self.old).holding → AnswersSession d line.now result (session self.old) (session self.new) };
+        ensures step { (d : Numbers) → HasNumbers d (session self.old).holding → StepsSession d line.now reply.new (session self.old) (session self.new) }
+        ensures answers { (d : Numbers) → HasNumbers d (session self.old).holding → AnswersSession d line.now reply.new (session self.old) (session self.new) };
 }
 
 /// What a session is to those that serve the commands of a queue on it.
@@ -85,9 +85,10 @@ pub fn run_lines<S: Stepping, O: Sink>(
     ensures fault { OnErr result (HasFailed (O.log out.old) (O.log out.new)) }
     ensures keeps { (d : Numbers) → HasNumbers d (S.session session.old).holding → KeepsSession d (S.session session.old) (S.session session.new) }
 {
+    let mut reply = Reply::Off;
     let mut text = ReplyText::new();
     for line in lines {
-        let reply = session.step(alloc, line);
+        session.step(alloc, line, &mut reply);
         text.set(&reply);
         out.give(text.as_slice())?;
     }

@@ -1,5 +1,5 @@
 //! Lines on a device that runs. Each is one call of it, and a step from every view that it stood for to one that it stands for.
-ghost use Rattle.std.specs.Prelude.{◌≡◌, ◌≤◌, ◌<◌, ◌^◌, ◌↔◌, false, length, None, IfSome, IfNone, IfOk, IfErr};
+ghost use Rattle.std.specs.Prelude.{◌≡◌, ◌≤◌, ◌<◌, ◌^◌, ◌↔◌, ℕ, List, false, length, None, IfSome, IfNone, IfOk, IfErr};
 ghost use Rattle.cell_die.specs.Calls.{Kept};
 ghost use Rattle.cell_die.specs.Power.{told, with_cut, with_power, with_read_failure};
 ghost use Rattle.cell_die.specs.DieState.{DieState};
@@ -25,6 +25,9 @@ use striped::Scheme;
 
 /// The most bytes of a sector.
 const ROW_BYTES: usize = 512;
+
+/// The bytes of a small sector.
+const SMALL_ROW_BYTES: usize = 16;
 
 /// The reply to a write that was placed.
 fn placed_reply(placed: Placed) -> Reply
@@ -58,8 +61,28 @@ fn filled_row(bytes: &[u8]) -> [u8; 512]
     row
 }
 
-/// Writes a sector that the device has, with bytes that fit it.
+/// Writes a row to a sector that the device has. The row is that of a line's bytes, filled up.
 fn write_row<D: Die + Drop, C: Scheme + Drop, F: Device<D, C>>(
+    ftl: &mut F,
+    sector: u32,
+    row: &[u8],
+) -> Reply
+    requires in_range { sector < (F.device ftl.old).numbers.geometry.sectors }
+    requires whole { length row.now ≡ (F.device ftl.old).numbers.geometry.sector_bytes }
+    requires running { (F.device ftl.old).stopped ≡ false }
+    ensures { (bytes : List ℕ) → length bytes ≤ (F.device ftl.old).numbers.geometry.sector_bytes → row.now ≡ filled_up (F.device ftl.old).numbers.geometry.sector_bytes bytes
+        → AnsweredWrite (F.device ftl.old).numbers sector bytes result (F.device ftl.old) (F.device ftl.new) }
+{
+    match ftl.write(sector, row) {
+        Ok(placed) => placed_reply(placed),
+        Err(FtlError::DieFault) => Reply::Fault,
+        Err(FtlError::Spent) => Reply::Spent,
+        Err(FtlError::BadSector | FtlError::Stopped) => unreachable!(),
+    }
+}
+
+/// Writes a sector that the device has, with bytes that fit it. As many as the sector has are written as they stand.
+fn write_bytes<D: Die + Drop, C: Scheme + Drop, F: Device<D, C>>(
     ftl: &mut F,
     sector: u32,
     bytes: &[u8],
@@ -70,14 +93,11 @@ fn write_row<D: Die + Drop, C: Scheme + Drop, F: Device<D, C>>(
     requires running { (F.device ftl.old).stopped ≡ false }
     ensures { AnsweredWrite (F.device ftl.old).numbers sector bytes.now result (F.device ftl.old) (F.device ftl.new) }
 {
-    let row = filled_row(bytes);
     let size = ftl.sector_bytes() as usize;
-    match ftl.write(sector, &row[..size]) {
-        Ok(placed) => placed_reply(placed),
-        Err(FtlError::DieFault) => Reply::Fault,
-        Err(FtlError::Spent) => Reply::Spent,
-        Err(FtlError::BadSector | FtlError::Stopped) => unreachable!(),
+    if bytes.len() == size {
+        return write_row(ftl, sector, bytes);
     }
+    write_row(ftl, sector, &filled_row(bytes)[..size])
 }
 
 /// Answers `write`.
@@ -96,22 +116,44 @@ fn write_line<D: Die + Drop, C: Scheme + Drop, F: Device<D, C>>(
     if bytes.len() > ftl.sector_bytes() as usize {
         return Reply::Long;
     }
-    write_row(ftl, sector, bytes)
+    write_bytes(ftl, sector, bytes)
 }
 
-/// Answers `read`.
-fn read_line<D: Die + Drop, C: Scheme + Drop, F: Device<D, C>>(ftl: &mut F, sector: u32) -> Reply
+/// Answers a read of a sector, which goes through a row of its size.
+fn read_row<D: Die + Drop, C: Scheme + Drop, F: Device<D, C>>(
+    ftl: &mut F,
+    sector: u32,
+    row: &mut [u8],
+    reply: &mut Reply,
+)
+    requires row { length row.old ≡ (F.device ftl.old).numbers.geometry.sector_bytes }
     requires few_bytes { (F.device ftl.old).numbers.geometry.sector_bytes ≤ 512 }
     requires running { (F.device ftl.old).stopped ≡ false }
-    ensures { AnsweredRead (F.device ftl.old).numbers sector result (F.device ftl.old) (F.device ftl.new) }
+    ensures { AnsweredRead (F.device ftl.old).numbers sector reply.new (F.device ftl.old) (F.device ftl.new) }
 {
-    let mut room = [0u8; ROW_BYTES];
-    let row = &mut room[..ftl.sector_bytes() as usize];
     match ftl.read(sector, row) {
-        Ok(()) => bytes_reply(row),
-        Err(FtlError::BadSector) => Reply::Range,
-        Err(FtlError::DieFault) => Reply::Fault,
+        Ok(()) => *reply = bytes_reply(row),
+        Err(FtlError::BadSector) => *reply = Reply::Range,
+        Err(FtlError::DieFault) => *reply = Reply::Fault,
         Err(FtlError::Stopped | FtlError::Spent) => unreachable!(),
+    }
+}
+
+/// Answers `read`. A small sector takes little room.
+fn read_line<D: Die + Drop, C: Scheme + Drop, F: Device<D, C>>(
+    ftl: &mut F,
+    sector: u32,
+    reply: &mut Reply,
+)
+    requires few_bytes { (F.device ftl.old).numbers.geometry.sector_bytes ≤ 512 }
+    requires running { (F.device ftl.old).stopped ≡ false }
+    ensures { AnsweredRead (F.device ftl.old).numbers sector reply.new (F.device ftl.old) (F.device ftl.new) }
+{
+    let size = ftl.sector_bytes() as usize;
+    if size <= SMALL_ROW_BYTES {
+        read_row(ftl, sector, &mut [0u8; SMALL_ROW_BYTES][..size], reply)
+    } else {
+        read_row(ftl, sector, &mut [0u8; ROW_BYTES][..size], reply)
     }
 }
 
@@ -142,17 +184,21 @@ fn idle_line<D: Die + Drop, C: Scheme + Drop, F: Device<D, C>>(ftl: &mut F, n: u
 }
 
 /// Answers a line that is played on a device, which runs.
-fn play_line<D: Die + Drop, C: Scheme + Drop, F: Device<D, C>>(ftl: &mut F, line: &Line) -> Reply
+fn play_line<D: Die + Drop, C: Scheme + Drop, F: Device<D, C>>(
+    ftl: &mut F,
+    line: &Line,
+    reply: &mut Reply,
+)
     requires line { IsPlayed line.now }
     requires few_bytes { (F.device ftl.old).numbers.geometry.sector_bytes ≤ 512 }
     requires running { (F.device ftl.old).stopped ≡ false }
-    ensures { Answered (F.device ftl.old).numbers line.now result (F.device ftl.old) (F.device ftl.new) }
+    ensures { Answered (F.device ftl.old).numbers line.now reply.new (F.device ftl.old) (F.device ftl.new) }
 {
     match line {
-        Line::Write { sector, bytes } => write_line(ftl, *sector, bytes.as_slice()),
-        Line::Read { sector } => read_line(ftl, *sector),
-        Line::Trim { sector } => trim_line(ftl, *sector),
-        Line::Idle { n } => idle_line(ftl, *n),
+        Line::Write { sector, bytes } => *reply = write_line(ftl, *sector, bytes.as_slice()),
+        Line::Read { sector } => read_line(ftl, *sector, reply),
+        Line::Trim { sector } => *reply = trim_line(ftl, *sector),
+        Line::Idle { n } => *reply = idle_line(ftl, *n),
         Line::Cut { .. } | Line::FailRead { .. } | Line::Mount | Line::Stat => unreachable!(),
     }
 }
@@ -179,7 +225,9 @@ pub fn play<D: Die + Drop, C: Scheme + Drop, F: Device<D, C>>(
             if ftl.stopped() {
                 Some(Reply::Off)
             } else {
-                Some(play_line(ftl, line))
+                let mut reply = Reply::Off;
+                play_line(ftl, line, &mut reply);
+                Some(reply)
             }
         }
     }
@@ -220,20 +268,21 @@ fn fail_read_line<D: PowerDie + Drop, C: Scheme + Drop, F: PowerDevice<D, C>>(
 pub fn answer_line<D: PowerDie + Drop, C: Scheme + Drop, F: PowerDevice<D, C>>(
     ftl: &mut F,
     line: &Line,
-) -> Reply
+    reply: &mut Reply,
+)
     requires line { IsDeviceLine line.now }
     requires can_step { CanStep line.now }
     requires few_bytes { (F.device ftl.old).numbers.geometry.sector_bytes ≤ 512 }
     requires running { (F.device ftl.old).stopped ≡ false }
     requires kept { IsKept (F.device ftl.old).numbers (F.device ftl.old) }
-    ensures step { Steps (F.device ftl.old).numbers line.now result (F.device ftl.old) (F.device ftl.new) }
-    ensures answers { AnsweredOn (F.device ftl.old).numbers line.now result (F.device ftl.old) (F.device ftl.new) }
+    ensures step { Steps (F.device ftl.old).numbers line.now reply.new (F.device ftl.old) (F.device ftl.new) }
+    ensures answers { AnsweredOn (F.device ftl.old).numbers line.now reply.new (F.device ftl.old) (F.device ftl.new) }
 {
     match line {
-        Line::Cut { n, torn } => cut_line(ftl, *n, *torn),
-        Line::FailRead { n } => fail_read_line(ftl, *n),
+        Line::Cut { n, torn } => *reply = cut_line(ftl, *n, *torn),
+        Line::FailRead { n } => *reply = fail_read_line(ftl, *n),
         Line::Mount | Line::Stat => unreachable!(),
-        _ => play_line(ftl, line),
+        _ => play_line(ftl, line, reply),
     }
 }
 

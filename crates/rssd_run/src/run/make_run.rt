@@ -21,7 +21,7 @@ use mem_die::MemDie;
 use rssd_core::device::PowerDevice;
 use rssd_core::whole::Ftl;
 use rssd_io::{Sink, WriteFault};
-use rssd_script::{Line, print_reply};
+use rssd_script::{Line, Reply, print_reply};
 use std::alloc::{AllocError, Global};
 use striped::Scheme;
 
@@ -56,7 +56,8 @@ fn make_with<C: Scheme + Drop, F: PowerDevice<MemDie, C>, O: Sink>(
     let Ok(()) = step_workload(alloc, &mut session, seeded, head.sectors, sector_bytes) else {
         return Err(RunError::OutOfMemory);
     };
-    let stat = session.step(alloc, &Line::Stat);
+    let mut stat = Reply::Off;
+    session.step(alloc, &Line::Stat, &mut stat);
     let held = read_held(alloc, &mut session, head.sectors);
     match tell(
         out,

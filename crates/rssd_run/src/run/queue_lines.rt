@@ -115,7 +115,8 @@ fn answer_at_once<S: Serving, O: Sink>(
     ensures err { OnErr result ((d : Numbers) → HasNumbers d (S.session session.old).holding → (lines : List Spelled) (queue : Waiting) → IsAtOnceDue (is_running (S.session session.old).holding) queue line.now
         → CutsOffActs d (place (line.now ∷ lines) tag queue) (S.session session.old) (S.session session.new) (O.log out.old) (O.log out.new)) }
 {
-    let reply = session.step(alloc, line);
+    let mut reply = Reply::Off;
+    session.step(alloc, line, &mut reply);
     tell(out, tag, &reply)
 }
 

@@ -118,21 +118,23 @@ impl<D: PowerDie + Drop, C: Scheme + Drop, F: PowerDevice<D, C>> Session<D, C, F
     }
 
     /// Answers a line that a device answers.
-    fn answer(&mut self, line: &Line) -> Reply
+    fn answer(&mut self, line: &Line, reply: &mut Reply)
         requires line { IsDeviceLine line.now }
         requires can_step { CanStep line.now }
         ensures numbers { (d : Numbers) → HasNumbers d (session_of D.state C.meaning F.device self.old).holding → HasNumbers d (session_of D.state C.meaning F.device self.new).holding }
         ensures step { (d : Numbers) → HasNumbers d (session_of D.state C.meaning F.device self.old).holding
-            → StepsSession d line.now result (session_of D.state C.meaning F.device self.old) (session_of D.state C.meaning F.device self.new) }
-        ensures answers { (d : Numbers) → HasNumbers d (session_of D.state C.meaning F.device self.old).holding → AnswersSession d line.now result (session_of D.state C.meaning F.device self.old) (session_of D.state C.meaning F.device self.new) }
+            → StepsSession d line.now reply.new (session_of D.state C.meaning F.device self.old) (session_of D.state C.meaning F.device self.new) }
+        ensures answers { (d : Numbers) → HasNumbers d (session_of D.state C.meaning F.device self.old).holding → AnswersSession d line.now reply.new (session_of D.state C.meaning F.device self.old) (session_of D.state C.meaning F.device self.new) }
     {
         let Some(ftl) = &mut self.mounted else {
-            return Reply::Off;
+            *reply = Reply::Off;
+            return;
         };
         if ftl.stopped() {
-            return Reply::Off;
+            *reply = Reply::Off;
+            return;
         }
-        answer_line(ftl, line)
+        answer_line(ftl, line, reply)
     }
 
     /// Whether the device runs.
@@ -223,11 +225,11 @@ impl<D: PowerDie + Drop, C: Scheme + Drop, F: PowerDevice<D, C>> Session<D, C, F
 impl<D: PowerDie + Drop, C: Scheme + Drop, F: PowerDevice<D, C>> Stepping for Session<D, C, F> {
     ghost session = { session_of D.state C.meaning F.device };
 
-    fn step(&mut self, alloc: Global, line: &Line) -> Reply {
+    fn step(&mut self, alloc: Global, line: &Line, reply: &mut Reply) {
         match line {
-            Line::Mount => self.mount(alloc),
-            Line::Stat => self.stat(),
-            line => self.answer(line),
+            Line::Mount => *reply = self.mount(alloc),
+            Line::Stat => *reply = self.stat(),
+            line => self.answer(line, reply),
         }
     }
 }

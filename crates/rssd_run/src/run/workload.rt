@@ -73,9 +73,10 @@ pub fn step_workload<S: Stepping>(
     ensures { OnOk result ((d : Numbers) → StepsLines d (workload seeded.seed seeded.count sectors sector_bytes) (S.session session.old) (S.session session.new)) }
 {
     let mut state = seeded.seed;
+    let mut reply = Reply::Off;
     for _ in 0..seeded.count {
         let line = draw(alloc, &mut state, sectors, sector_bytes)?;
-        let _reply = session.step(alloc, &line);
+        session.step(alloc, &line, &mut reply);
     }
     Ok(())
 }
@@ -108,7 +109,9 @@ pub fn read_held<S: Stepping>(alloc: Global, session: &mut S, sectors: u32) -> H
 {
     let mut held = Held { count: 0, sum: 0 };
     for sector in 0..sectors {
-        let Reply::Bytes(bytes) = session.step(alloc, &Line::Read { sector }) else {
+        let mut reply = Reply::Off;
+        session.step(alloc, &Line::Read { sector }, &mut reply);
+        let Reply::Bytes(bytes) = reply else {
             unreachable!();
         };
         let row = bytes.as_slice();

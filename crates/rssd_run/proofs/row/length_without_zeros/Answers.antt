@@ -1,7 +1,13 @@
 -- What is passed from the end are zeros, and the byte before them is none.
 use Rattle.std.proofs.Common.{arith, sym, ◌∙◌}
-use Rattle.rssd_run.proofs.Zeros.{zeros_step, zeros_end, trimmed}
+use Rattle.rssd_run.proofs.Zeros.{zeros_alone, zeros_step, zeros_end, trimmed}
 use Rattle.rssd_run.proofs.row.length_without_zeros.Goals as goal
+
+pub returns-then-is_blank-clause-bytes : goal.returns-then-is_blank-clause-bytes
+returns-then-is_blank-clause-bytes c = sym (zeros_alone c.args.bytes.now (sym c.is_blank.ensures ∙ c.if-is_blank.true))
+
+pub returns-then-is_blank-clause-trimmed : goal.returns-then-is_blank-clause-trimmed
+returns-then-is_blank-clause-trimmed c = trimmed c.args.bytes.now
 
 pub loop-count-preserved : goal.loop-count-preserved
 loop-count-preserved c = record {

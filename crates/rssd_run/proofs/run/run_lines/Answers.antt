@@ -28,16 +28,16 @@ loop-line-preserved g c =
     let lines = c.args.lines.now in
     let i = c.loop-line.line-index in
     let line = c.line-item.result in
-    let reply = c.step-reply.result in
+    let reply = c.step.new.reply in
     let more : take (i + 1) lines ≡ take i lines ++ line ∷ [] = take_more lines i line (omega arith) ∙ ap (λ item. take i lines ++ item ∷ []) (sym c.line-item.is) in
     let among : All (λ l. is_cut l ≡ false) lines → is_cut line ≡ false = λ all. ap is_cut c.line-item.is ∙ All-get_or (λ l. is_cut l ≡ false) lines i line (omega arith) all in
     let text : c.as_slice.result.now ≡ reply_line reply = c.as_slice.ensures ∙ c.set.ensures in
     let given = subst (λ (xs : List ℕ). log c.give.new.self ≡ log c.loop-line.out ++ moved xs ∷ []) text c.in_ok-give.ensures.log in
     record {
-      numbers = λ d numbers. c.step-reply.ensures.numbers d (c.loop-line.invariant.numbers d numbers);
+      numbers = λ d numbers. c.step.ensures.numbers d (c.loop-line.invariant.numbers d numbers);
       runs = λ d numbers before shows calm.
           let so = c.loop-line.invariant.runs d numbers before shows calm in
-          let s = (c.step-reply.ensures.step d (c.loop-line.invariant.numbers d numbers)).step so.0 so.1 (calm_now d so.0.device.die lines so.2) in (
+          let s = (c.step.ensures.step d (c.loop-line.invariant.numbers d numbers)).step so.0 so.1 (calm_now d so.0.device.die lines so.2) in (
             s.0,
             s.1,
             calm_on d so.0 s.0 line reply lines s.2 among so.2,
@@ -45,16 +45,16 @@ loop-line-preserved g c =
           );
       answered = λ d numbers.
           rw more (answers_more d _ _ _ (take i lines) line reply (log c.args.out.now) (log c.loop-line.out) (log c.give.new.self) (c.loop-line.invariant.answered d numbers)
-          (c.step-reply.ensures.answers d (c.loop-line.invariant.numbers d numbers)) given);
+          (c.step.ensures.answers d (c.loop-line.invariant.numbers d numbers)) given);
       grew = (c.loop-line.invariant.grew.0 ++ moved c.as_slice.result.now ∷ [], more_came _ _ _ c.loop-line.invariant.grew.0 _ c.loop-line.invariant.grew.1 c.in_ok-give.ensures.log);
       keeps = λ d numbers die has.
           let one = c.loop-line.invariant.keeps d numbers die has in
-          let two = (c.step-reply.ensures.step d (c.loop-line.invariant.numbers d numbers)).keeps one.0 one.1 in
+          let two = (c.step.ensures.step d (c.loop-line.invariant.numbers d numbers)).keeps one.0 one.1 in
           (two.0, two.1, keeps_more d die one.0 two.0 one.2 two.2);
     }
 
 pub returns-in_err-give-clause-numbers : goal.returns-in_err-give-clause-numbers
-returns-in_err-give-clause-numbers g c = λ d numbers. c.step-reply.ensures.numbers d (c.loop-line.invariant.numbers d numbers)
+returns-in_err-give-clause-numbers g c = λ d numbers. c.step.ensures.numbers d (c.loop-line.invariant.numbers d numbers)
 
 on_err : {T E : Type 0} (r : Result T E) (P : Type 0) → P → OnErr r P
 on_err (Ok x) P holds = tt
@@ -66,7 +66,7 @@ returns-in_err-give-clause-err g c =
     let lines = c.args.lines.now in
     let i = c.loop-line.line-index in
     let line = c.line-item.result in
-    let reply = c.step-reply.result in
+    let reply = c.step.new.reply in
     let more : take (i + 1) lines ≡ take i lines ++ line ∷ [] = take_more lines i line (omega arith) ∙ ap (λ item. take i lines ++ item ∷ []) (sym c.line-item.is) in
     let count : i ≡ length (take i lines) = omega (arith, length-take i lines) in
     let front : take i lines ++ line ∷ [] ≡ take (length (take i lines) + 1) lines = sym more ∙ ap (λ (n : ℕ). take (n + 1) lines) count in
@@ -74,7 +74,7 @@ returns-in_err-give-clause-err g c =
     let given = subst (λ (xs : List ℕ). log c.give.new.self ≡ log c.loop-line.out ++ moved (take c.in_err-give.ensures.log.0 xs) ∷ failed ∷ []) text c.in_err-give.ensures.log.1 in
     on_err c.from_residual.result _ (λ d numbers before shows calm.
     let so = c.loop-line.invariant.runs d numbers before shows calm in
-    let s = (c.step-reply.ensures.step d (c.loop-line.invariant.numbers d numbers)).step so.0 so.1 (calm_now d so.0.device.die lines so.2) in (
+    let s = (c.step.ensures.step d (c.loop-line.invariant.numbers d numbers)).step so.0 so.1 (calm_now d so.0.device.die lines so.2) in (
       s.0,
       s.1,
       run_cut_off d before so.0 s.0 (take i lines) line reply (log c.args.out.now) (log c.loop-line.out) (log c.give.new.self) so.3 s.2 lines front c.in_err-give.ensures.log.0 given,
@@ -95,7 +95,7 @@ returns-in_err-give-clause-grew g c =
 pub returns-in_err-give-clause-keeps : goal.returns-in_err-give-clause-keeps
 returns-in_err-give-clause-keeps g c = λ d numbers die has.
     let one = c.loop-line.invariant.keeps d numbers die has in
-    let two = (c.step-reply.ensures.step d (c.loop-line.invariant.numbers d numbers)).keeps one.0 one.1 in
+    let two = (c.step.ensures.step d (c.loop-line.invariant.numbers d numbers)).keeps one.0 one.1 in
     (two.0, two.1, keeps_more d die one.0 two.0 one.2 two.2)
 
 pub returns-in_err-give-clause-answered_front : goal.returns-in_err-give-clause-answered_front
@@ -104,7 +104,7 @@ returns-in_err-give-clause-answered_front g c =
     let lines = c.args.lines.now in
     let i = c.loop-line.line-index in
     let line = c.line-item.result in
-    let reply = c.step-reply.result in
+    let reply = c.step.new.reply in
     let more : take (i + 1) lines ≡ take i lines ++ line ∷ [] = take_more lines i line (omega arith) ∙ ap (λ item. take i lines ++ item ∷ []) (sym c.line-item.is) in
     let count : i ≡ length (take i lines) = omega (arith, length-take i lines) in
     let front : take i lines ++ line ∷ [] ≡ take (length (take i lines) + 1) lines = sym more ∙ ap (λ (n : ℕ). take (n + 1) lines) count in
@@ -112,7 +112,7 @@ returns-in_err-give-clause-answered_front g c =
     let given = subst (λ (xs : List ℕ). log c.give.new.self ≡ log c.loop-line.out ++ moved (take c.in_err-give.ensures.log.0 xs) ∷ failed ∷ []) text c.in_err-give.ensures.log.1 in
     on_err c.from_residual.result _ (λ d numbers.
     answers_cut_off d _ _ _ (take i lines) line reply (log c.args.out.now) (log c.loop-line.out) (log c.give.new.self) (c.loop-line.invariant.answered d numbers)
-    (c.step-reply.ensures.answers d (c.loop-line.invariant.numbers d numbers)) lines front c.in_err-give.ensures.log.0 given)
+    (c.step.ensures.answers d (c.loop-line.invariant.numbers d numbers)) lines front c.in_err-give.ensures.log.0 given)
 
 pub returns-clause-answered : goal.returns-clause-answered
 returns-clause-answered g c = λ d numbers.

@@ -32,13 +32,13 @@ pub returns-else-stopped-clause-plays : goal.returns-else-stopped-clause-plays
 returns-else-stopped-clause-plays g c =
     let old : DeviceValue = g.F.Device.device c.args.ftl.now in
     let new : DeviceValue = g.F.Device.device c.play_line.new.ftl in
-    answered_plays old.numbers old new (sym c.stopped.ensures ∙ c.if-stopped.false) c.args.line.now c.play_line.result c.play_line.ensures
+    answered_plays old.numbers old new (sym c.stopped.ensures ∙ c.if-stopped.false) c.args.line.now c.play_line.new.reply c.play_line.ensures
 
 pub returns-else-stopped-clause-quiet : goal.returns-else-stopped-clause-quiet
 returns-else-stopped-clause-quiet g c =
     let old : DeviceValue = g.F.Device.device c.args.ftl.now in
     let new : DeviceValue = g.F.Device.device c.play_line.new.ftl in
-    answered_quiet old.numbers old new c.args.line.now c.play_line.result c.play_line.ensures
+    answered_quiet old.numbers old new c.args.line.now c.play_line.new.reply c.play_line.ensures
 
 pub returns-then-stopped-clause-keeps : goal.returns-then-stopped-clause-keeps
 returns-then-stopped-clause-keeps g c =
@@ -49,19 +49,19 @@ pub returns-else-stopped-clause-keeps : goal.returns-else-stopped-clause-keeps
 returns-else-stopped-clause-keeps g c =
     let old : DeviceValue = g.F.Device.device c.args.ftl.now in
     let new : DeviceValue = g.F.Device.device c.play_line.new.ftl in
-    answered_keeps old.numbers old new c.args.line.now c.play_line.result c.play_line.ensures
+    answered_keeps old.numbers old new c.args.line.now c.play_line.new.reply c.play_line.ensures
 
 pub returns-else-stopped-clause-numbers : goal.returns-else-stopped-clause-numbers
 returns-else-stopped-clause-numbers g c =
     let old : DeviceValue = g.F.Device.device c.args.ftl.now in
     let new : DeviceValue = g.F.Device.device c.play_line.new.ftl in
-    (answered_built old.numbers old new c.args.line.now c.play_line.result c.play_line.ensures).numbers
+    (answered_built old.numbers old new c.args.line.now c.play_line.new.reply c.play_line.ensures).numbers
 
 pub returns-else-stopped-clause-kept : goal.returns-else-stopped-clause-kept
 returns-else-stopped-clause-kept g c =
     let old : DeviceValue = g.F.Device.device c.args.ftl.now in
     let new : DeviceValue = g.F.Device.device c.play_line.new.ftl in
-    (answered_built old.numbers old new c.args.line.now c.play_line.result c.play_line.ensures).kept
+    (answered_built old.numbers old new c.args.line.now c.play_line.new.reply c.play_line.ensures).kept
 
 pub returns-then-stopped-clause-answers : goal.returns-then-stopped-clause-answers
 returns-then-stopped-clause-answers g c = inl (sym c.stopped.ensures ∙ c.if-stopped.true, refl, refl)
@@ -75,7 +75,7 @@ returns-else-stopped-clause-answers g c =
       (
         new,
         refl,
-        played_on old.numbers c.args.line.now c.play_line.result old new
+        played_on old.numbers c.args.line.now c.play_line.new.reply old new
             (is_played c.args.line.now (λ n torn. c.in_default.not-Cut n torn) (λ n. c.in_default.not-FailRead n) c.in_default.not-Mount c.in_default.not-Stat) c.play_line.ensures,
       ),
     )

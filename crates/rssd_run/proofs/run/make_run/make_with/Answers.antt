@@ -23,7 +23,7 @@ read_held-held-requires g c =
     let stepped = c.in-Ok.ensures (numbers_named c.args.head.now) in
     let m = is_made c.args.head.now (mem_state c.args.die) fresh c.args.seeded.seed c.args.seeded.count _ _ _ c.in_ok-session.ensures.started
     (stepped_named c.args.head.now c.args.seeded.seed c.args.seeded.count c.sector_bytes-sector_bytes.result c.sector_bytes-sector_bytes.ensures _ _ stepped)
-    c.step-stat.result c.step-stat.ensures.numbers c.step-stat.ensures.step in
+    c.step.new.reply c.step.ensures.numbers c.step.ensures.step in
     (numbers_named c.args.head.now, m.made.rows, m.has, m.has.as_many)
 
 pub returns-in-Ok-tell-clause-done : goal.returns-in-Ok-tell-clause-done
@@ -32,7 +32,7 @@ returns-in-Ok-tell-clause-done g c =
     let stepped = c.in-Ok.ensures (numbers_named c.args.head.now) in
     let m = is_made c.args.head.now (mem_state c.args.die) fresh c.args.seeded.seed c.args.seeded.count _ _ _ c.in_ok-session.ensures.started
     (stepped_named c.args.head.now c.args.seeded.seed c.args.seeded.count c.sector_bytes-sector_bytes.result c.sector_bytes-sector_bytes.ensures _ _ stepped)
-    c.step-stat.result c.step-stat.ensures.numbers c.step-stat.ensures.step in
+    c.step.new.reply c.step.ensures.numbers c.step.ensures.step in
     let told = told_same m c.as_slice.result.now c.as_slice-2.result.now c.read_held-held.result.count c.read_held-held.result.sum
     (c.as_slice.ensures ∙ c.print_reply.ensures) (c.as_slice-2.ensures.value ∙ c.held_text.ensures)
     (c.read_held-held.ensures.count (numbers_named c.args.head.now) m.made.rows m.has m.has.as_many) (c.read_held-held.ensures.sum (numbers_named c.args.head.now) m.made.rows m.has m.has.as_many) in
@@ -44,7 +44,7 @@ returns-clause-front g c = λ is.
     let stepped = c.in-Ok.ensures (numbers_named c.args.head.now) in
     let m = is_made c.args.head.now (mem_state c.args.die) fresh c.args.seeded.seed c.args.seeded.count _ _ _ c.in_ok-session.ensures.started
     (stepped_named c.args.head.now c.args.seeded.seed c.args.seeded.count c.sector_bytes-sector_bytes.result c.sector_bytes-sector_bytes.ensures _ _ stepped)
-    c.step-stat.result c.step-stat.ensures.numbers c.step-stat.ensures.step in
+    c.step.new.reply c.step.ensures.numbers c.step.ensures.step in
     let told = told_same m c.as_slice.result.now c.as_slice-2.result.now c.read_held-held.result.count c.read_held-held.result.sum
     (c.as_slice.ensures ∙ c.print_reply.ensures) (c.as_slice-2.ensures.value ∙ c.held_text.ensures)
     (c.read_held-held.ensures.count (numbers_named c.args.head.now) m.made.rows m.has m.has.as_many) (c.read_held-held.ensures.sum (numbers_named c.args.head.now) m.made.rows m.has m.has.as_many) in

@@ -24,8 +24,8 @@ unreachable-requires g c =
     let long = c.requires.3 in
     let has : HasRows d (g.S.Stepping.session c.loop-sector.session) rows = so.0 in
     let numbers = has.calm.numbers in
-    let read : IsRowRead d (g.S.Stepping.session c.step.new.self) rows c.loop-sector.sector c.step.result
-    = row_read d (g.S.Stepping.session c.loop-sector.session) (g.S.Stepping.session c.step.new.self) rows has (c.step.ensures.numbers d numbers) c.loop-sector.sector c.step.result
+    let read : IsRowRead d (g.S.Stepping.session c.step.new.self) rows c.loop-sector.sector c.step.new.reply
+    = row_read d (g.S.Stepping.session c.loop-sector.session) (g.S.Stepping.session c.step.new.self) rows has (c.step.ensures.numbers d numbers) c.loop-sector.sector c.step.new.reply
     (omega (arith, long)) (c.step.ensures.step d numbers) in
     c.in_default.not-Bytes read.bytes read.reply_is
 
@@ -38,10 +38,10 @@ loop-sector-preserved g c = record {
       let here : HasRows d (g.S.Stepping.session c.loop-sector.session) rows = so.0 in
       let numbers = here.calm.numbers in
       let within : c.loop-sector.sector < length rows = omega (arith, long) in
-      let read : IsRowRead d (g.S.Stepping.session c.step.new.self) rows c.loop-sector.sector c.step.result
-      = row_read d (g.S.Stepping.session c.loop-sector.session) (g.S.Stepping.session c.step.new.self) rows here (c.step.ensures.numbers d numbers) c.loop-sector.sector c.step.result
+      let read : IsRowRead d (g.S.Stepping.session c.step.new.self) rows c.loop-sector.sector c.step.new.reply
+      = row_read d (g.S.Stepping.session c.loop-sector.session) (g.S.Stepping.session c.step.new.self) rows here (c.step.ensures.numbers d numbers) c.loop-sector.sector c.step.new.reply
       within (c.step.ensures.step d numbers) in
-      let same : c.in-Bytes.bytes ≡ read.bytes = told c.step.result c.in-Bytes.bytes read.bytes c.in-Bytes.is read.reply_is in
+      let same : c.in-Bytes.bytes ≡ read.bytes = told c.step.new.reply c.in-Bytes.bytes read.bytes c.in-Bytes.is read.reply_is in
       let row : c.as_slice-row.result.now ≡ without_zeros (get_or rows c.loop-sector.sector []) = c.as_slice-row.ensures.value ∙ (same ∙ read.row_is) in
       let held : c.from.result ≡ cond (is_held (get_or rows c.loop-sector.sector [])) 1 0
       = c.from.ensures ∙ (as_number (not c.is_empty.result) ∙ (ap (λ (b : Bool). cond (not b) 1 0) c.is_empty.ensures

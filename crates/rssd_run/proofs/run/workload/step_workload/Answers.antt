@@ -15,21 +15,21 @@ loop-init g c = λ d before calm. (
   ([], runs_none d before, ap (λ (n : ℕ). workload_from n c.args.sectors c.args.sector_bytes c.args.seeded.seed) (omega arith)),
 )
 
-pub step-reply-requires : goal.step-reply-requires
-step-reply-requires g c = subst CanStep (sym c.in_ok-line.ensures.line) (next_line_can_step c.args.sectors c.args.sector_bytes c.loop.state)
+pub step-requires : goal.step-requires
+step-requires g c = subst CanStep (sym c.in_ok-line.ensures.line) (next_line_can_step c.args.sectors c.args.sector_bytes c.loop.state)
 
 pub loop-preserved : goal.loop-preserved
 loop-preserved g c = λ d before calm.
     let so = c.loop.invariant d before calm in
     let line = c.in_ok-line.line in
     let plain : IsPlain line = subst IsPlain (sym c.in_ok-line.ensures.line) (next_line_plain c.args.sectors c.args.sector_bytes c.loop.state) in
-    let s = calm_step d line c.step-reply.result (g.S.Stepping.session c.loop.session) (g.S.Stepping.session c.step-reply.new.self) so.0 so.1 plain
-    (c.step-reply.ensures.numbers d so.1.numbers) (c.step-reply.ensures.step d so.1.numbers) in (
+    let s = calm_step d line c.step.new.reply (g.S.Stepping.session c.loop.session) (g.S.Stepping.session c.step.new.self) so.0 so.1 plain
+    (c.step.ensures.numbers d so.1.numbers) (c.step.ensures.step d so.1.numbers) in (
       s.after,
       s.calm,
       (
         so.2.0 ++ line ∷ [],
-        runs_more d before so.0 s.after so.2.0 line c.step-reply.result so.2.1 s.step,
+        runs_more d before so.0 s.after so.2.0 line c.step.new.reply so.2.1 s.step,
         (λ i. (so.2.0 ++ c.in_ok-line.ensures.line i ∷ []) ++ workload_from (c.args.seeded.count - (c.loop.counter + 1)) c.args.sectors c.args.sector_bytes (c.in_ok-line.ensures.next i))
             ∙ (one_more_line c.loop.counter c.args.seeded.count c.args.sectors c.args.sector_bytes c.loop.state so.2.0 c.loop-test.true ∙ so.2.2),
       ),

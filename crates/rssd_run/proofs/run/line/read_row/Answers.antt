@@ -2,7 +2,7 @@ use Rattle.std.proofs.Common.{ap, Err}
 use Rattle.rssd_core.specs.SectorArray.{without_zeros}
 use Rattle.rssd_core.specs.DeviceValue.{DeviceValue}
 use Rattle.rssd_run.proofs.Errors.{range_no_fault, ok_in_range, fault_in_range}
-use Rattle.rssd_run.proofs.run.line.read_line.Goals as goal
+use Rattle.rssd_run.proofs.run.line.read_row.Goals as goal
 
 pub returns-in-Ok : goal.returns-in-Ok
 returns-in-Ok g c =
