@@ -7,7 +7,6 @@ use Rattle.rssd_words.specs.declared.command.Command.TheVariants as commands
 use Rattle.rssd_words.specs.Commands.{head_words, words_of as command_words}
 use Rattle.lab_lines.specs.declared.kind.Kind.{Kind}
 use Rattle.lab_words.specs.declared.asked.Asked.{Asked}
-use Rattle.lab_words.specs.declared.asked.AskedDie.{AskedDie}
 use Rattle.lab_words.specs.declared.asked.DieKind.{DieKind}
 use Rattle.lab_words.specs.declared.asked.DieKind.TheVariants.{Plain, Worn, Pair}
 use Rattle.lab_words.specs.declared.asked.LinesFrom.{LinesFrom}

@@ -1,5 +1,5 @@
 -- The words of a laboratory, and what they ask for.
-use Rattle.std.specs.Prelude.{◌≡◌, ℕ, ◌^◌, ◌<◌, ◌≤◌, List, ◌∷◌, codes, decimal}
+use Rattle.std.specs.Prelude.{ℕ, ◌^◌, ◌<◌, ◌≤◌, List, ◌∷◌, codes, decimal}
 use Rattle.die_image.specs.declared.head.ImageHead.{ImageHead}
 use Rattle.rssd_words.specs.declared.command.Command.{Command}
 use Rattle.rssd_words.specs.declared.command.Command.TheVariants as commands

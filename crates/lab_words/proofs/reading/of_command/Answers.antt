@@ -1,9 +1,8 @@
 -- Each kind of die but the plain one has a command of its own.
-use Rattle.std.proofs.Common.{◌≡◌, Option, Some, ap, sym, ◌∙◌}
-use Rattle.rssd_words.specs.declared.command.Command.{Command}
+use Rattle.std.proofs.Common.{◌≡◌, Some}
 use Rattle.rssd_words.specs.declared.command.Command.TheVariants as commands
 use Rattle.lab_words.specs.Orders.{command_on}
-use Rattle.lab_words.proofs.Spelling.{some_same, worn_only, pair_only}
+use Rattle.lab_words.proofs.Spelling.{worn_only, pair_only}
 use Rattle.lab_words.proofs.reading.of_command.Goals as goal
 
 pub returns-in-Some-Worn-clause-only : goal.returns-in-Some-Worn-clause-only

@@ -1,5 +1,5 @@
 -- Words that are those of no plain die are those of a command, or of no die.
-use Rattle.std.proofs.Common.{◌≡◌, ℕ, List, length, map, Option, None, Some, string_bytes, sym, ap, ◌∙◌, subst, Global}
+use Rattle.std.proofs.Common.{◌≡◌, length, map, None, Some, string_bytes, sym, ap, ◌∙◌, subst, Global}
 use Rattle.rssd_words.specs.declared.command.Command.{Command}
 use Rattle.rssd_words.specs.Commands.{words_of as command_words, IsWithin as IsCommandWithin}
 use Rattle.lab_words.specs.declared.asked.AskedDie.{AskedDie}

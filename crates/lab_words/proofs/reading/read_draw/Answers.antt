@@ -1,5 +1,5 @@
 -- Behind six words stand those of a die.
-use Rattle.std.proofs.Common.{◌≡◌, ℕ, ◌-◌, List, ◌∷◌, length, map, take, drop, Option, Some, string_bytes, sym, ap, ◌∙◌, subst, arith, Global}
+use Rattle.std.proofs.Common.{◌≡◌, ℕ, ◌-◌, List, ◌∷◌, length, map, take, drop, Some, string_bytes, sym, ap, ◌∙◌, subst, arith, Global}
 use Rattle.std.specs.Prelude.{codes, decimal}
 use Rattle.std.proofs.lemmas.List.{length-map}
 use Rattle.lab_words.specs.declared.asked.Asked.{Asked}

@@ -1,5 +1,5 @@
 -- Five words are those of a head.
-use Rattle.std.proofs.Common.{◌≡◌, ℕ, List, [], ◌∷◌, length, map, Option, Some, string_bytes, sym, ◌∙◌, subst, arith, Global}
+use Rattle.std.proofs.Common.{◌≡◌, [], ◌∷◌, length, map, Some, string_bytes, sym, ◌∙◌, subst, arith, Global}
 use Rattle.rssd_words.specs.Commands.{head_words, IsWithin as IsCommandWithin}
 use Rattle.lab_words.specs.declared.asked.DieKind.{DieKind}
 use Rattle.lab_words.specs.Orders.{words_with, command_on}

@@ -1,8 +1,7 @@
 -- The first word says which words stand behind it.
-use Rattle.std.proofs.Common.{◌≡◌, inl, inr, ℕ, ◌-◌, List, ◌∷◌, length, map, take, drop, Option, None, Some, string_bytes, sym, ap, ◌∙◌, subst, arith, Global}
+use Rattle.std.proofs.Common.{◌≡◌, inl, inr, ℕ, ◌-◌, List, ◌∷◌, length, map, take, drop, string_bytes, sym, ◌∙◌, subst, arith, Global}
 use Rattle.std.specs.Prelude.{IfSome, codes}
 use Rattle.std.proofs.lemmas.List.{length-map}
-use Rattle.lab_words.specs.declared.asked.Asked.{Asked}
 use Rattle.lab_words.specs.Orders.{words_of, IsWithin}
 use Rattle.lab_words.proofs.Spelling.{begins, three_words, one_and}
 use Rattle.lab_words.proofs.reading.read_words.Goals as goal

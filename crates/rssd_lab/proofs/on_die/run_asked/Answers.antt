@@ -36,6 +36,52 @@ pub returns-in-Ok-clause-done : goal.returns-in-Ok-clause-done
 returns-in-Ok-clause-done g c =
     let asked = c.args.asked.now in
     let blank = c.in-Ok.blank in
-    runs_more g.L.Lines.gives g.L.Lines.ended g.L.Lines.stops c.args.telling (Mounts (numbers_named blank.head) (mem_state blank.die)) (IsBlankDevice asked)
-    (starts asked Plain blank.head (mem_state blank.die) c.in-Plain.is c.in-Ok.ensures.head c.in-Ok.ensures.die)
+    let die : DieState = mem_state blank.die in
+    runs_more g.L.Lines.gives g.L.Lines.ended g.L.Lines.stops c.args.telling (Mounts (numbers_named blank.head) die) (IsBlankDevice asked)
+    (starts asked Plain blank.head die c.in-Plain.is c.in-Ok.ensures.head c.in-Ok.ensures.die)
     c.args.lines.now c.run_on.new.lines (g.O.Sink.log c.args.out.now) (g.O.Sink.log c.run_on.new.out) c.run_on.result c.run_on.ensures.done
+
+pub returns-in-Ok-clause-stops : goal.returns-in-Ok-clause-stops
+returns-in-Ok-clause-stops g c =
+    let asked = c.args.asked.now in
+    let blank = c.in-Ok.blank in
+    let die : DieState = mem_state blank.die in
+    stops_more g.L.Lines.gives g.L.Lines.ended g.L.Lines.stops c.args.telling (Mounts (numbers_named blank.head) die) (IsBlankDevice asked)
+    (starts asked Plain blank.head die c.in-Plain.is c.in-Ok.ensures.head c.in-Ok.ensures.die)
+    c.args.lines.now c.run_on.new.lines (g.O.Sink.log c.args.out.now) (g.O.Sink.log c.run_on.new.out) c.run_on.result c.run_on.ensures.stops
+
+pub returns-in-Ok-worn-clause-done : goal.returns-in-Ok-worn-clause-done
+returns-in-Ok-worn-clause-done g c =
+    let asked = c.args.asked.now in
+    let blank = c.in-Ok-worn.blank in
+    let die : DieState = spare_state (worn_state blank.die.inner) blank.die.logical (own_of blank.die.tally) in
+    runs_more g.L.Lines.gives g.L.Lines.ended g.L.Lines.stops c.args.telling (Mounts (numbers_named blank.head) die) (IsBlankDevice asked)
+    (starts asked (Worn c.in-Worn.reserve c.in-Worn.bad) blank.head die c.in-Worn.is c.in-Ok-worn.ensures.head c.in-Ok-worn.ensures.die)
+    c.args.lines.now c.run_on-in-Ok-worn.new.lines (g.O.Sink.log c.args.out.now) (g.O.Sink.log c.run_on-in-Ok-worn.new.out) c.run_on-in-Ok-worn.result c.run_on-in-Ok-worn.ensures.done
+
+pub returns-in-Ok-worn-clause-stops : goal.returns-in-Ok-worn-clause-stops
+returns-in-Ok-worn-clause-stops g c =
+    let asked = c.args.asked.now in
+    let blank = c.in-Ok-worn.blank in
+    let die : DieState = spare_state (worn_state blank.die.inner) blank.die.logical (own_of blank.die.tally) in
+    stops_more g.L.Lines.gives g.L.Lines.ended g.L.Lines.stops c.args.telling (Mounts (numbers_named blank.head) die) (IsBlankDevice asked)
+    (starts asked (Worn c.in-Worn.reserve c.in-Worn.bad) blank.head die c.in-Worn.is c.in-Ok-worn.ensures.head c.in-Ok-worn.ensures.die)
+    c.args.lines.now c.run_on-in-Ok-worn.new.lines (g.O.Sink.log c.args.out.now) (g.O.Sink.log c.run_on-in-Ok-worn.new.out) c.run_on-in-Ok-worn.result c.run_on-in-Ok-worn.ensures.stops
+
+pub returns-in-Ok-pair-clause-done : goal.returns-in-Ok-pair-clause-done
+returns-in-Ok-pair-clause-done g c =
+    let asked = c.args.asked.now in
+    let blank = c.in-Ok-pair.blank in
+    let die : DieState = pair_state (mem_state blank.die.a) (mem_state blank.die.b) in
+    runs_more g.L.Lines.gives g.L.Lines.ended g.L.Lines.stops c.args.telling (Mounts (numbers_named blank.head) die) (IsBlankDevice asked)
+    (starts asked Pair blank.head die c.in-Pair.is c.in-Ok-pair.ensures.head c.in-Ok-pair.ensures.die)
+    c.args.lines.now c.run_on-in-Ok-pair.new.lines (g.O.Sink.log c.args.out.now) (g.O.Sink.log c.run_on-in-Ok-pair.new.out) c.run_on-in-Ok-pair.result c.run_on-in-Ok-pair.ensures.done
+
+pub returns-in-Ok-pair-clause-stops : goal.returns-in-Ok-pair-clause-stops
+returns-in-Ok-pair-clause-stops g c =
+    let asked = c.args.asked.now in
+    let blank = c.in-Ok-pair.blank in
+    let die : DieState = pair_state (mem_state blank.die.a) (mem_state blank.die.b) in
+    stops_more g.L.Lines.gives g.L.Lines.ended g.L.Lines.stops c.args.telling (Mounts (numbers_named blank.head) die) (IsBlankDevice asked)
+    (starts asked Pair blank.head die c.in-Pair.is c.in-Ok-pair.ensures.head c.in-Ok-pair.ensures.die)
+    c.args.lines.now c.run_on-in-Ok-pair.new.lines (g.O.Sink.log c.args.out.now) (g.O.Sink.log c.run_on-in-Ok-pair.new.out) c.run_on-in-Ok-pair.result c.run_on-in-Ok-pair.ensures.stops
