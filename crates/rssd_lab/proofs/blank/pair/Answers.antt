@@ -6,12 +6,12 @@ use Rattle.rssd_run.specs.Heads.{numbers_named}
 use Rattle.rssd_run.proofs.PairPlays.{pair_blank, pair_mounts}
 use Rattle.rssd_lab.proofs.blank.pair.Goals as goal
 
-pub Blank-clause-blank : goal.Blank-clause-blank
-Blank-clause-blank c =
+pub invariant_of-result-clause-blank : goal.invariant_of-result-clause-blank
+invariant_of-result-clause-blank c =
     let die : DieState = pair_state (mem_state c.in_ok-die.die.a) (mem_state c.in_ok-die.die.b) in
     pair_blank c.args.head die c.requires.even c.in_ok-die.ensures
 
-pub Blank-clause-mounts : goal.Blank-clause-mounts
-Blank-clause-mounts c = λ new fails.
+pub invariant_of-result-clause-mounts : goal.invariant_of-result-clause-mounts
+invariant_of-result-clause-mounts c = λ new fails.
     let die : DieState = pair_state (mem_state c.in_ok-die.die.a) (mem_state c.in_ok-die.die.b) in
     pair_mounts c.args.head die c.requires.even c.in_ok-die.ensures (numbers_named c.args.head) _ fails

@@ -5,8 +5,8 @@ use Rattle.rssd_run.specs.Heads.{numbers_named}
 use Rattle.rssd_lab.proofs.Starts.{new_blank, new_mounts}
 use Rattle.rssd_lab.proofs.blank.plain.Goals as goal
 
-pub Blank-clause-blank : goal.Blank-clause-blank
-Blank-clause-blank c = new_blank (shape_of c.args.head) (mem_state c.in_ok-die.die) c.in_ok-die.ensures
+pub invariant_of-result-clause-blank : goal.invariant_of-result-clause-blank
+invariant_of-result-clause-blank c = new_blank (shape_of c.args.head) (mem_state c.in_ok-die.die) c.in_ok-die.ensures
 
-pub Blank-clause-mounts : goal.Blank-clause-mounts
-Blank-clause-mounts c = λ new fails. new_mounts (shape_of c.args.head) (numbers_named c.args.head) (mem_state c.in_ok-die.die) (mem_state new) c.in_ok-die.ensures fails
+pub invariant_of-result-clause-mounts : goal.invariant_of-result-clause-mounts
+invariant_of-result-clause-mounts c = λ new fails. new_mounts (shape_of c.args.head) (numbers_named c.args.head) (mem_state c.in_ok-die.die) (mem_state new) c.in_ok-die.ensures fails

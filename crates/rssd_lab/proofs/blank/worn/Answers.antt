@@ -9,13 +9,13 @@ use Rattle.rssd_run.specs.Heads.{numbers_named}
 use Rattle.rssd_run.proofs.WornPlays.{worn_blank, worn_mounts}
 use Rattle.rssd_lab.proofs.blank.worn.Goals as goal
 
-pub Blank-clause-blank : goal.Blank-clause-blank
-Blank-clause-blank c =
+pub invariant_of-result-clause-blank : goal.invariant_of-result-clause-blank
+invariant_of-result-clause-blank c =
     let spare = c.in_ok-die.die in
     worn_blank c.args.head c.args.reserve c.args.bad c.requires.within c.requires.reserve (spare_state (worn_state spare.inner) spare.logical (own_of spare.tally)) c.in_ok-die.ensures
 
-pub Blank-clause-mounts : goal.Blank-clause-mounts
-Blank-clause-mounts c = λ new fails.
+pub invariant_of-result-clause-mounts : goal.invariant_of-result-clause-mounts
+invariant_of-result-clause-mounts c = λ new fails.
     let spare = c.in_ok-die.die in
     let die : DieState = spare_state (worn_state spare.inner) spare.logical (own_of spare.tally) in
     worn_mounts (numbers_named c.args.head) (shape_of c.args.head) die (spare_state (worn_state new.inner) new.logical (own_of new.tally))

@@ -1,6 +1,5 @@
 -- The die is blank, so it is refused only for want of memory.
 use Rattle.std.proofs.Common.{◌≡◌, inl, inr, sym, subst}
-use Rattle.cell_die.specs.DieState.{DieState}
 use Rattle.die_image.specs.Image.{shape_of}
 use Rattle.rssd_core.specs.declared.device.MountError.TheVariants.{OutOfMemory}
 use Rattle.rssd_core.specs.DeviceValue.{DeviceValue}
@@ -29,8 +28,8 @@ unreachable-requires g c =
       | inr other ↦ elim other [ inl fault ↦ cc | inr spare ↦ cc ]
     ]
 
-pub returns-in-Ok-clause-mounted : goal.returns-in-Ok-clause-mounted
-returns-in-Ok-clause-mounted g c =
+pub returns-in-Ok-mount-clause-mounted : goal.returns-in-Ok-mount-clause-mounted
+returns-in-Ok-mount-clause-mounted g c =
     let state = g.D.Die.state in
     let blank = c.args.blank in
     let die = c.in-Ok.die.inner in

@@ -1,5 +1,5 @@
 -- Each kind of die is made blank, and a run on it is one on a blank die of the head and kind that were asked for.
-use Rattle.std.proofs.Common.{refl, subst}
+use Rattle.std.proofs.Common.{subst}
 use Rattle.cell_die.specs.DieState.{DieState}
 use Rattle.mem_die.specs.MemState.{mem_state}
 use Rattle.mem_die.specs.WornState.{worn_state}
@@ -24,7 +24,7 @@ pub worn-requires-clause-within : goal.worn-requires-clause-within
 worn-requires-clause-within g c = (subst (λ (kind : DieKind). IsWithin (command_on c.args.asked.now.head kind)) c.in-Worn.is c.requires).0
 
 pub worn-requires-clause-reserve : goal.worn-requires-clause-reserve
-worn-requires-clause-reserve g c = (subst (λ (kind : DieKind). IsWithin (command_on c.args.asked.now.head kind)) c.in-Worn.is c.requires).1.0
+worn-requires-clause-reserve g c = (subst (λ (kind : DieKind). IsWithin (command_on c.args.asked.now.head kind)) c.in-Worn.is c.requires).1
 
 pub pair-requires-clause-within : goal.pair-requires-clause-within
 pair-requires-clause-within g c = (subst (λ (kind : DieKind). IsWithin (command_on c.args.asked.now.head kind)) c.in-Pair.is c.requires).0
@@ -57,7 +57,7 @@ returns-in-Ok-worn-clause-done g c =
     let die : DieState = spare_state (worn_state blank.die.inner) blank.die.logical (own_of blank.die.tally) in
     runs_more g.L.Lines.gives g.L.Lines.ended g.L.Lines.stops c.args.telling (Mounts (numbers_named blank.head) die) (IsBlankDevice asked)
     (starts asked (Worn c.in-Worn.reserve c.in-Worn.bad) blank.head die c.in-Worn.is c.in-Ok-worn.ensures.head c.in-Ok-worn.ensures.die)
-    c.args.lines.now c.run_on-in-Ok-worn.new.lines (g.O.Sink.log c.args.out.now) (g.O.Sink.log c.run_on-in-Ok-worn.new.out) c.run_on-in-Ok-worn.result c.run_on-in-Ok-worn.ensures.done
+    c.args.lines.now c.run_on-in-Worn.new.lines (g.O.Sink.log c.args.out.now) (g.O.Sink.log c.run_on-in-Worn.new.out) c.run_on-in-Worn.result c.run_on-in-Worn.ensures.done
 
 pub returns-in-Ok-worn-clause-stops : goal.returns-in-Ok-worn-clause-stops
 returns-in-Ok-worn-clause-stops g c =
@@ -66,7 +66,7 @@ returns-in-Ok-worn-clause-stops g c =
     let die : DieState = spare_state (worn_state blank.die.inner) blank.die.logical (own_of blank.die.tally) in
     stops_more g.L.Lines.gives g.L.Lines.ended g.L.Lines.stops c.args.telling (Mounts (numbers_named blank.head) die) (IsBlankDevice asked)
     (starts asked (Worn c.in-Worn.reserve c.in-Worn.bad) blank.head die c.in-Worn.is c.in-Ok-worn.ensures.head c.in-Ok-worn.ensures.die)
-    c.args.lines.now c.run_on-in-Ok-worn.new.lines (g.O.Sink.log c.args.out.now) (g.O.Sink.log c.run_on-in-Ok-worn.new.out) c.run_on-in-Ok-worn.result c.run_on-in-Ok-worn.ensures.stops
+    c.args.lines.now c.run_on-in-Worn.new.lines (g.O.Sink.log c.args.out.now) (g.O.Sink.log c.run_on-in-Worn.new.out) c.run_on-in-Worn.result c.run_on-in-Worn.ensures.stops
 
 pub returns-in-Ok-pair-clause-done : goal.returns-in-Ok-pair-clause-done
 returns-in-Ok-pair-clause-done g c =
@@ -75,7 +75,7 @@ returns-in-Ok-pair-clause-done g c =
     let die : DieState = pair_state (mem_state blank.die.a) (mem_state blank.die.b) in
     runs_more g.L.Lines.gives g.L.Lines.ended g.L.Lines.stops c.args.telling (Mounts (numbers_named blank.head) die) (IsBlankDevice asked)
     (starts asked Pair blank.head die c.in-Pair.is c.in-Ok-pair.ensures.head c.in-Ok-pair.ensures.die)
-    c.args.lines.now c.run_on-in-Ok-pair.new.lines (g.O.Sink.log c.args.out.now) (g.O.Sink.log c.run_on-in-Ok-pair.new.out) c.run_on-in-Ok-pair.result c.run_on-in-Ok-pair.ensures.done
+    c.args.lines.now c.run_on-in-Pair.new.lines (g.O.Sink.log c.args.out.now) (g.O.Sink.log c.run_on-in-Pair.new.out) c.run_on-in-Pair.result c.run_on-in-Pair.ensures.done
 
 pub returns-in-Ok-pair-clause-stops : goal.returns-in-Ok-pair-clause-stops
 returns-in-Ok-pair-clause-stops g c =
@@ -84,4 +84,4 @@ returns-in-Ok-pair-clause-stops g c =
     let die : DieState = pair_state (mem_state blank.die.a) (mem_state blank.die.b) in
     stops_more g.L.Lines.gives g.L.Lines.ended g.L.Lines.stops c.args.telling (Mounts (numbers_named blank.head) die) (IsBlankDevice asked)
     (starts asked Pair blank.head die c.in-Pair.is c.in-Ok-pair.ensures.head c.in-Ok-pair.ensures.die)
-    c.args.lines.now c.run_on-in-Ok-pair.new.lines (g.O.Sink.log c.args.out.now) (g.O.Sink.log c.run_on-in-Ok-pair.new.out) c.run_on-in-Ok-pair.result c.run_on-in-Ok-pair.ensures.stops
+    c.args.lines.now c.run_on-in-Pair.new.lines (g.O.Sink.log c.args.out.now) (g.O.Sink.log c.run_on-in-Pair.new.out) c.run_on-in-Pair.result c.run_on-in-Pair.ensures.stops
