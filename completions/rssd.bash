@@ -36,6 +36,18 @@ _rssd() {
 }
 complete -F _rssd rssd ./rssd build/rssd
 
+# Proposes the words of a die, of which the first stands at place $1: those of a device, or of the commands `worn` and `pair`.
+_lab_die() {
+    local place=$((COMP_CWORD - $1))
+    case $place:${COMP_WORDS[$1]-} in
+        0:*) _rssd_words "worn pair plain16 rs16 rs512 coset16 coset512 flip16 flip512 ham16 ham512" ;;
+        6:worn) _rssd_range "RESERVE:0..${COMP_WORDS[$1 + 3]:-2}" ;;
+        7:worn) _rssd_range BAD:0..4294967295 ;;
+        *:worn | *:pair) _rssd_device $(($1 + 1)) ;;
+        *) _rssd_device "$1" ;;
+    esac
+}
+
 _lab() {
     COMPREPLY=()
     case $COMP_CWORD:${COMP_WORDS[1]-} in
@@ -46,8 +58,8 @@ _lab() {
         4:draw) _rssd_range SEED:0..18446744073709551615 ;;
         5:draw) _rssd_range COUNT:0..18446744073709551615 ;;
         6:draw) _rssd_range IDLE:0..1000 ;;
-        *:play) _rssd_device 4 ;;
-        *:draw) _rssd_device 8 ;;
+        *:play) _lab_die 4 ;;
+        *:draw) _lab_die 8 ;;
     esac
 }
 complete -F _lab lab ./lab build/lab

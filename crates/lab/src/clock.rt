@@ -15,10 +15,10 @@ pub struct Clocked<'a, R: Clock + Eprint> {
     count: Option<u64>,
 }
 
-/// How many lines an order draws: its fifth word.
+/// How many lines an order draws: the fifth word of one that begins with `draw`.
 fn count_of(words: &[String]) -> Option<u64> {
     match words {
-        [_, _, _, _, count, _, _, _, _, _, _, _] => count.as_str().parse().ok(),
+        [name, _, _, _, count, ..] if name.as_str() == "draw" => count.as_str().parse().ok(),
         _ => None,
     }
 }

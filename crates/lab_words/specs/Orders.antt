@@ -1,10 +1,15 @@
 -- The words of a laboratory, and what they ask for.
-use Rattle.std.specs.Prelude.{◌≡◌, ℕ, ◌^◌, ◌<◌, ◌≤◌, true, List, ◌∷◌, codes, decimal}
-use Rattle.die_image.specs.Image.{is_within_limits}
-use Rattle.rssd_words.specs.Commands.{head_words}
+use Rattle.std.specs.Prelude.{ℕ, ◌^◌, ◌<◌, ◌≤◌, List, ◌∷◌, codes, decimal}
+use Rattle.die_image.specs.declared.head.ImageHead.{ImageHead}
+use Rattle.rssd_words.specs.declared.command.Command.{Command}
+use Rattle.rssd_words.specs.declared.command.Command.TheVariants as commands
+use Rattle.rssd_words.specs.Commands.{head_words, words_of as command_words, IsWithin as IsCommandWithin}
 use Rattle.lab_lines.specs.declared.kind.Kind.{Kind}
 use Rattle.lab_lines.specs.declared.kind.Kind.TheVariants.{Uniform, Hot, Zipf, Sequential, Mixed}
 use Rattle.lab_words.specs.declared.asked.Asked.{Asked}
+use Rattle.lab_words.specs.declared.asked.AskedDie.{AskedDie}
+use Rattle.lab_words.specs.declared.asked.DieKind.{DieKind}
+use Rattle.lab_words.specs.declared.asked.DieKind.TheVariants.{Plain, Worn, Pair}
 use Rattle.lab_words.specs.declared.asked.LinesFrom.{LinesFrom}
 use Rattle.lab_words.specs.declared.asked.LinesFrom.TheVariants.{Stream, Drawn}
 use Rattle.lab_words.specs.declared.asked.Voice.{Voice}
@@ -24,6 +29,25 @@ voice_word Loud = codes "loud"
 voice_word Quiet = codes "quiet"
 voice_word Progress = codes "progress"
 
+-- the command of `rssd` that plays a script on such a die
+abbrev pub command_on : ImageHead → DieKind → Command
+command_on head Plain = commands.Replay head
+command_on head (Worn reserve bad) = commands.Worn head reserve bad
+command_on head Pair = commands.Pair head
+
+-- the words of a die: of a plain one its head's, of another those of that command
+abbrev pub words_with : ImageHead → DieKind → List (List ℕ)
+words_with head Plain = head_words head
+words_with head (Worn reserve bad) = command_words (commands.Worn head reserve bad)
+words_with head Pair = command_words (commands.Pair head)
+
+abbrev pub die_words : AskedDie → List (List ℕ)
+die_words die = words_with die.head die.kind
+
+-- the numbers of a die are within the limits of that command
+abbrev pub IsDieWithin : AskedDie → Type 0
+IsDieWithin die = IsCommandWithin (command_on die.head die.kind)
+
 -- the words of where the lines come from, with the words of a voice and of a number among them, and others behind
 abbrev pub spelled_front : LinesFrom → List ℕ → List ℕ → List (List ℕ) → List (List ℕ)
 spelled_front Stream voice every rest = codes "play" ∷ voice ∷ every ∷ rest
@@ -31,7 +55,7 @@ spelled_front (Drawn kind seed count idle) voice every rest = codes "draw" ∷ v
 
 -- the one spelling of an order
 abbrev pub words_of : Asked → List (List ℕ)
-words_of asked = spelled_front asked.from (voice_word asked.voice) (decimal asked.every) (head_words asked.head)
+words_of asked = spelled_front asked.from (voice_word asked.voice) (decimal asked.every) (die_words asked.die)
 
 -- the numbers of drawn lines are within limits
 abbrev pub IsDrawnWithin : LinesFrom → Type 0
@@ -43,4 +67,4 @@ pub record IsWithin (asked : Asked) : Type 0 where
   pub from : IsDrawnWithin asked.from
   pub some : 1 ≤ asked.every
   pub every : asked.every < 2 ^ 64
-  pub head : is_within_limits asked.head ≡ true
+  pub die : IsDieWithin asked.die

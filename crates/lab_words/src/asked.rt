@@ -26,11 +26,29 @@ pub enum Voice {
     Progress,
 }
 
+/// What a blank die is made of.
+#[derive(Clone, Copy, Debug, PartialEq, Eq)]
+pub enum DieKind {
+    /// One die, no block of which goes bad.
+    Plain,
+    /// A die with so many reserve blocks, each `bad`-th erase of which makes its block bad.
+    Worn { reserve: u32, bad: u32 },
+    /// Two dies, each with half of the blocks, as one.
+    Pair,
+}
+
+/// A blank die, with what it says of its device.
+#[derive(Clone, Copy, Debug, PartialEq, Eq)]
+pub struct AskedDie {
+    pub head: ImageHead,
+    pub kind: DieKind,
+}
+
 /// What is asked of a laboratory: lines, a row after each `every` of them, and a device.
 #[derive(Clone, Copy, Debug, PartialEq, Eq)]
 pub struct Asked {
     pub from: LinesFrom,
     pub voice: Voice,
     pub every: u64,
-    pub head: ImageHead,
+    pub die: AskedDie,
 }

@@ -1,17 +1,19 @@
 //! What the words ask for.
-ghost use Rattle.std.specs.Prelude.{◌≡◌, ℕ, List, true, [], ◌∷◌, ◌≤◌, ◌<◌, ◌^◌, map, length, IfSome, Some, codes, string_bytes, decimal};
+ghost use Rattle.std.specs.Prelude.{◌≡◌, ◌≢◌, ℕ, List, true, [], ◌∷◌, ◌≤◌, ◌<◌, ◌^◌, map, IfSome, Some, codes, string_bytes, decimal};
 ghost use Rattle.die_image.specs.declared.head.ImageHead.{ImageHead as Head};
 ghost use Rattle.die_image.specs.Image.{is_within_limits};
 ghost use Rattle.rssd_words.specs.Commands.{head_words};
 ghost use Rattle.lab_lines.specs.declared.kind.Kind.{Kind as Chosen};
 ghost use Rattle.lab_words.specs.declared.asked.Asked.{Asked as Order};
+ghost use Rattle.lab_words.specs.declared.asked.AskedDie.{AskedDie as Wanted};
 ghost use Rattle.lab_words.specs.declared.asked.Voice.{Voice as Told};
-ghost use Rattle.lab_words.specs.Orders.{kind_word, voice_word, words_of, spelled_front, IsDrawnWithin, IsWithin};
+ghost use Rattle.lab_words.specs.Orders.{kind_word, voice_word, words_of, die_words, command_on, spelled_front, IsDrawnWithin, IsDieWithin, IsWithin};
 
 use crate::numbers::{read_number, read_small};
-use crate::{Asked, LinesFrom, Voice};
+use crate::{Asked, AskedDie, DieKind, LinesFrom, Voice};
 use die_image::{ImageHead, SchemeName, within_limits};
 use lab_lines::Kind;
+use rssd_words::{Command, read_words as read_command};
 
 /// The head that five words spell.
 fn read_head(
@@ -37,6 +39,53 @@ fn read_head(
         Some(head)
     } else {
         None
+    }
+}
+
+/// The die on which a command of `rssd` plays, where that is none of a head alone.
+fn of_command(command: Option<Command>) -> Option<AskedDie>
+    ensures found { IfSome result (λ die. (command ≡ Some (command_on die.head die.kind)) × (die.kind ≢ DieKind.Plain)) }
+    ensures only { (die : Wanted) → die.kind ≢ DieKind.Plain → command ≡ Some (command_on die.head die.kind) → result ≡ Some die }
+{
+    match command {
+        Some(Command::Worn { head, reserve, bad }) => Some(AskedDie {
+            head,
+            kind: DieKind::Worn { reserve, bad },
+        }),
+        Some(Command::Pair(head)) => Some(AskedDie {
+            head,
+            kind: DieKind::Pair,
+        }),
+        _ => None,
+    }
+}
+
+/// The plain die whose head the words spell.
+fn read_plain(words: &[String]) -> Option<AskedDie>
+    ensures found { IfSome result (λ die. IsDieWithin die × (map string_bytes words.now ≡ die_words die)) }
+    ensures kind { IfSome result (λ die. die.kind ≡ DieKind.Plain) }
+    ensures only { (die : Wanted) → die.kind ≡ DieKind.Plain → IsDieWithin die → map string_bytes words.now ≡ die_words die → result ≡ Some die }
+{
+    match words {
+        [a, b, c, d, e] => {
+            let head = read_head(a.as_str(), b.as_str(), c.as_str(), d.as_str(), e.as_str())?;
+            Some(AskedDie {
+                head,
+                kind: DieKind::Plain,
+            })
+        }
+        _ => None,
+    }
+}
+
+/// The die that the words spell: the words of its head, or those of the command `worn` or `pair` of `rssd`.
+fn read_die(words: &[String]) -> Option<AskedDie>
+    ensures found { IfSome result (λ die. IsDieWithin die × (map string_bytes words.now ≡ die_words die)) }
+    ensures only { (die : Wanted) → IsDieWithin die → map string_bytes words.now ≡ die_words die → result ≡ Some die }
+{
+    match read_plain(words) {
+        Some(die) => Some(die),
+        None => of_command(read_command(words)),
     }
 }
 
@@ -88,17 +137,6 @@ fn read_idle(word: &str) -> Option<u32>
     if idle <= 1_000 { Some(idle) } else { None }
 }
 
-/// The lines of a source, which one word spells.
-fn read_stream(name: &str) -> Option<LinesFrom>
-    ensures found { IfSome result (λ from. (from ≡ LinesFrom.Stream) × (name.now ≡ codes "play")) }
-    ensures only { name.now ≡ codes "play" → result ≡ Some LinesFrom.Stream }
-{
-    match name {
-        "play" => Some(LinesFrom::Stream),
-        _ => None,
-    }
-}
-
 /// The lines of a workload with these numbers.
 fn read_numbers(kind: &str, seed: &str, count: &str, idle: &str) -> Option<LinesFrom>
     ensures found { IfSome result (λ from. IsDrawnWithin from × ((voice every : List ℕ) (rest : List (List ℕ))
@@ -114,67 +152,67 @@ fn read_numbers(kind: &str, seed: &str, count: &str, idle: &str) -> Option<Lines
     })
 }
 
-/// The lines of a workload that these words spell.
-fn read_drawn(name: &str, kind: &str, seed: &str, count: &str, idle: &str) -> Option<LinesFrom>
-    ensures found { IfSome result (λ from. IsDrawnWithin from × ((voice every : List ℕ) (rest : List (List ℕ))
-        → name.now ∷ voice ∷ kind.now ∷ seed.now ∷ count.now ∷ idle.now ∷ every ∷ rest ≡ spelled_front from voice every rest)) }
-    ensures only { (k : Chosen) (s n i : ℕ) → IsDrawnWithin (LinesFrom.Drawn k s n i) → name.now ≡ codes "draw"
-        → kind.now ≡ kind_word k → seed.now ≡ decimal s → count.now ≡ decimal n → idle.now ≡ decimal i → result ≡ Some (LinesFrom.Drawn k s n i) }
-{
-    match name {
-        "draw" => read_numbers(kind, seed, count, idle),
-        _ => None,
-    }
-}
-
-/// An order for these lines, with a voice and a number, and a head.
-fn order(
-    from: Option<LinesFrom>,
-    voice: &str,
-    every: &str,
-    head: Option<ImageHead>,
-) -> Option<Asked>
+/// An order for these lines, with a voice and a number, and a die.
+fn order(from: Option<LinesFrom>, voice: &str, every: &str, die: Option<AskedDie>) -> Option<Asked>
     requires from { IfSome from (λ f. IsDrawnWithin f) }
-    requires head { IfSome head (λ h. is_within_limits h ≡ true) }
+    requires die { IfSome die (λ d. IsDieWithin d) }
     ensures within { IfSome result (λ asked. IsWithin asked) }
     ensures from { IfSome result (λ asked. from ≡ Some asked.from) }
     ensures voice { IfSome result (λ asked. voice.now ≡ voice_word asked.voice) }
     ensures every { IfSome result (λ asked. every.now ≡ decimal asked.every) }
-    ensures head { IfSome result (λ asked. head ≡ Some asked.head) }
+    ensures die { IfSome result (λ asked. die ≡ Some asked.die) }
     ensures only { (asked : Order) → IsWithin asked → from ≡ Some asked.from → voice.now ≡ voice_word asked.voice → every.now ≡ decimal asked.every
-        → head ≡ Some asked.head → result ≡ Some asked }
+        → die ≡ Some asked.die → result ≡ Some asked }
 {
     Some(Asked {
         from: from?,
         voice: read_voice(voice)?,
         every: read_every(every)?,
-        head: head?,
+        die: die?,
     })
 }
 
-/// What the words ask for: `play VOICE EVERY HEAD`, or `draw VOICE KIND SEED COUNT IDLE EVERY HEAD`, where HEAD is SCHEME BLOCKS
-/// PAGES SECTORS REUSE.
+/// The order that the words behind `play` spell: VOICE EVERY DIE.
+fn read_play(words: &[String]) -> Option<Asked>
+    ensures found { IfSome result (λ asked. IsWithin asked × (codes "play" ∷ map string_bytes words.now ≡ words_of asked)) }
+    ensures only { (asked : Order) → IsWithin asked → codes "play" ∷ map string_bytes words.now ≡ words_of asked → result ≡ Some asked }
+{
+    match words {
+        [voice, every, die @ ..] => {
+            let die = read_die(die);
+            order(Some(LinesFrom::Stream), voice.as_str(), every.as_str(), die)
+        }
+        _ => None,
+    }
+}
+
+/// The order that the words behind `draw` spell: VOICE KIND SEED COUNT IDLE EVERY DIE.
+fn read_draw(words: &[String]) -> Option<Asked>
+    ensures found { IfSome result (λ asked. IsWithin asked × (codes "draw" ∷ map string_bytes words.now ≡ words_of asked)) }
+    ensures only { (asked : Order) → IsWithin asked → codes "draw" ∷ map string_bytes words.now ≡ words_of asked → result ≡ Some asked }
+{
+    match words {
+        [voice, kind, seed, count, idle, every, die @ ..] => {
+            let from = read_numbers(kind.as_str(), seed.as_str(), count.as_str(), idle.as_str());
+            let die = read_die(die);
+            order(from, voice.as_str(), every.as_str(), die)
+        }
+        _ => None,
+    }
+}
+
+/// What the words ask for: `play VOICE EVERY DIE`, or `draw VOICE KIND SEED COUNT IDLE EVERY DIE`, where DIE is HEAD,
+/// `worn HEAD RESERVE BAD` or `pair HEAD`, and HEAD is SCHEME BLOCKS PAGES SECTORS REUSE.
 pub fn read_words(words: &[String]) -> Option<Asked>
     ensures found { IfSome result (λ asked. IsWithin asked × (map string_bytes words.now ≡ words_of asked)) }
     ensures only { (asked : Order) → IsWithin asked → map string_bytes words.now ≡ words_of asked → result ≡ Some asked }
 {
     match words {
-        [name, voice, every, a, b, c, d, e] => {
-            let from = read_stream(name.as_str());
-            let head = read_head(a.as_str(), b.as_str(), c.as_str(), d.as_str(), e.as_str());
-            order(from, voice.as_str(), every.as_str(), head)
-        }
-        [name, voice, kind, seed, count, idle, every, a, b, c, d, e] => {
-            let from = read_drawn(
-                name.as_str(),
-                kind.as_str(),
-                seed.as_str(),
-                count.as_str(),
-                idle.as_str(),
-            );
-            let head = read_head(a.as_str(), b.as_str(), c.as_str(), d.as_str(), e.as_str());
-            order(from, voice.as_str(), every.as_str(), head)
-        }
+        [name, behind @ ..] => match name.as_str() {
+            "play" => read_play(behind),
+            "draw" => read_draw(behind),
+            _ => None,
+        },
         _ => None,
     }
 }

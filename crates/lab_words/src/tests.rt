@@ -23,11 +23,15 @@ fn read(alloc: Global, line: &str) -> Result<Option<Asked>, Fail> {
 
 #[test]
 fn both_orders_are_read(rt: HostRuntime) -> Result<(), Fail> {
+    let die = AskedDie {
+        head: HEAD,
+        kind: DieKind::Plain,
+    };
     let played = Asked {
         from: LinesFrom::Stream,
         voice: Voice::Loud,
         every: 10,
-        head: HEAD,
+        die,
     };
     assert_eq!(rt;
         read(rt.alloc(), "play loud 10 rs16 2 2 1 0")?,
@@ -42,12 +46,34 @@ fn both_orders_are_read(rt: HostRuntime) -> Result<(), Fail> {
         },
         voice: Voice::Progress,
         every: 1,
-        head: HEAD,
+        die,
     };
     assert_eq!(rt;
         read(rt.alloc(), "draw progress hot 1 5 1000 1 rs16 2 2 1 0")?,
         Some(drawn)
     );
+    Ok(())
+}
+
+#[test]
+fn each_kind_of_die_is_read(rt: HostRuntime) -> Result<(), Fail> {
+    let worn = DieKind::Worn {
+        reserve: 2,
+        bad: u32::MAX,
+    };
+    for (line, kind) in [
+        ("play quiet 1 rs16 2 2 1 0", DieKind::Plain),
+        ("play quiet 1 worn rs16 2 2 1 0 2 4294967295", worn),
+        ("play quiet 1 pair rs16 2 2 1 0", DieKind::Pair),
+    ] {
+        let asked = Asked {
+            from: LinesFrom::Stream,
+            voice: Voice::Quiet,
+            every: 1,
+            die: AskedDie { head: HEAD, kind },
+        };
+        assert_eq!(rt; read(rt.alloc(), line)?, Some(asked));
+    }
     Ok(())
 }
 
@@ -61,6 +87,11 @@ fn bad_words_ask_for_nothing(rt: HostRuntime) -> Result<(), Fail> {
         "draw quiet cold 1 5 0 1 rs16 2 2 1 0",
         "draw quiet hot 1 05 0 1 rs16 2 2 1 0",
         "play loud 10 rs16 2 2 2 0",
+        "play loud 10 replay rs16 2 2 1 0",
+        "play loud 10 pair rs16 3 2 3 0",
+        "play loud 10 worn rs16 2 2 1 0 3 0",
+        "play loud 10 worn rs16 2 2 1 0 0 4294967296",
+        "play loud 10 worn rs16 2 2 1 0",
     ] {
         assert_eq!(rt; read(rt.alloc(), line)?, None);
     }

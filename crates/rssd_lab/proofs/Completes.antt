@@ -1,7 +1,7 @@
 -- Where all lines can be played and no call failed, two statuses are left.
 use Rattle.std.proofs.Common.{◌≡◌, ◌⊎◌, inl, inr, ℕ, ◌+◌, List, [], ◌∷◌, ◌++◌, length, map, refl, ap, sym, ◌∙◌, subst, append-nil}
 use Rattle.std.specs.List.{AllZip, AllByRecursion}
-use Rattle.die_image.specs.declared.head.ImageHead.{ImageHead}
+use Rattle.rssd_core.specs.DeviceValue.{DeviceValue}
 use Rattle.rssd_io.specs.Event.{Event, HasEnded, bytes_of}
 use Rattle.rssd_io.proofs.Logs.{since_is}
 use Rattle.rssd_script.specs.declared.lines.Line.{Line}
@@ -12,12 +12,14 @@ use Rattle.rssd_run.specs.Played.{IsPlayed}
 use Rattle.rssd_run.specs.Statuses.{Input, Output, takes, taken, ReadFailed, WriteFailed}
 use Rattle.lab_tables.proofs.Failing.{failed_later}
 use Rattle.lab_words.specs.declared.asked.Asked.{Asked}
+use Rattle.lab_words.specs.declared.asked.AskedDie.{AskedDie}
 use Rattle.lab_words.specs.declared.asked.LinesFrom.{LinesFrom}
 use Rattle.lab_words.specs.declared.asked.LinesFrom.TheVariants.{Stream, Drawn}
 use Rattle.lab_stream.specs.Spelled.{EndsOnce}
 use Rattle.rssd_lab.specs.declared.telling.Telling.{Telling}
 use Rattle.rssd_lab.specs.declared.status.Status.{Status}
 use Rattle.rssd_lab.specs.declared.status.Status.TheVariants.{Done, BadWords, BadLine, ReadFault, WriteFault, OutOfMemory}
+use Rattle.rssd_lab.specs.Dies.{IsBlankDevice}
 use Rattle.rssd_lab.specs.Ends.{SaysPlay, SaysFrom, SaysOf, IsOutside, IsUnplayed, HasPlayed, ArePlayed, IsComplete}
 
 -- ---- the last of the first lines of a script
@@ -53,8 +55,8 @@ last_played bytes front ahead after lines last all is script (inr over) whole_sc
 
 -- ---- each status
 
-module _ (telling : Telling) (head : ImageHead) (input : Input) (out : Output) where
-  never_outside : HasPlayed input → IsOutside telling head input out → ⊥
+module _ (telling : Telling) (Start : DeviceValue → Type 0) (input : Input) (out : Output) where
+  never_outside : HasPlayed input → IsOutside telling Start input out → ⊥
   never_outside script outside =
       let bad = outside.bad in
       let is : takes input ≡ bad.events = since_is input.before input.after bad.events bad.came in
@@ -62,14 +64,14 @@ module _ (telling : Telling) (head : ImageHead) (input : Input) (out : Output) w
       subst (λ (events : List Event). FirstBadLine (bytes_of events) (length outside.lines + 1)) (sym is) (bad.bad (subst EndsOnce is script.once)) in
       no_bad (taken input) script.lines (length outside.lines + 1) script.script first
 
-  never_unplayed : HasPlayed input → IsUnplayed telling head input out → ⊥
+  never_unplayed : HasPlayed input → IsUnplayed telling Start input out → ⊥
   never_unplayed script unplayed =
       let came = unplayed.came.1 in
       let is : takes input ≡ came.events = since_is input.before input.after came.events came.came in
       let are = came.spelled (subst EndsOnce is script.once) in
       unplayed.unplayed (last_played (taken input) came.front unplayed.came.0 input.after unplayed.lines unplayed.last script.lines (ap bytes_of is ∙ came.bytes) are.script are.whole script.script script.played)
 
-  play_completes : (status : Status) → SaysPlay telling head input out status → HasPlayed input → (ReadFailed input → ⊥) → (WriteFailed out → ⊥) → (status ≡ Done) ⊎ (status ≡ OutOfMemory)
+  play_completes : (status : Status) → SaysPlay telling Start input out status → HasPlayed input → (ReadFailed input → ⊥) → (WriteFailed out → ⊥) → (status ≡ Done) ⊎ (status ≡ OutOfMemory)
   play_completes Done says script read given = inl refl
   play_completes OutOfMemory says script read given = inr refl
   play_completes BadWords says script read given = absurd says
@@ -80,9 +82,10 @@ module _ (telling : Telling) (head : ImageHead) (input : Input) (out : Output) w
       absurd (read (failed_later input.before came.between input.after came.streamed.events came.streamed.came came.failed))
   play_completes WriteFault says script read given = absurd (given says.failed)
 
-  from_completes : (from : LinesFrom) (status : Status) → SaysFrom from telling head input out status → ArePlayed from input → (ReadFailed input → ⊥) → (WriteFailed out → ⊥)
+module _ (telling : Telling) (die : AskedDie) (input : Input) (out : Output) where
+  from_completes : (from : LinesFrom) (status : Status) → SaysFrom from telling die input out status → ArePlayed from input → (ReadFailed input → ⊥) → (WriteFailed out → ⊥)
       → (status ≡ Done) ⊎ (status ≡ OutOfMemory)
-  from_completes Stream status says script read given = play_completes status says script read given
+  from_completes Stream status says script read given = play_completes telling (IsBlankDevice die) input out status says script read given
   from_completes (Drawn kind seed count idle) Done says script read given = inl refl
   from_completes (Drawn kind seed count idle) OutOfMemory says script read given = inr refl
   from_completes (Drawn kind seed count idle) BadWords says script read given = absurd says.0
@@ -91,4 +94,4 @@ module _ (telling : Telling) (head : ImageHead) (input : Input) (out : Output) w
   from_completes (Drawn kind seed count idle) WriteFault says script read given = absurd (given says.0.failed)
 
 pub completes : (asked : Asked) (input : Input) (out : Output) (status : Status) → SaysOf asked input out status → IsComplete asked input out status
-completes asked input out status says = from_completes says.telling asked.head input out asked.from status says.says
+completes asked input out status says = from_completes says.telling asked.die input out asked.from status says.says

@@ -1,7 +1,7 @@
 -- What came of a stream, or was drawn, and how the run of it ended, make what a status says.
 use Rattle.std.proofs.Common.{◌≡◌, ◌⊎◌, inl, inr, ℕ, zero, suc, ◌+◌, ◌-◌, ◌^◌, ◌<◌, Bool, true, false, List, [], ◌∷◌, ◌++◌, length, ap, sym, ◌∙◌, subst, arith}
 use Rattle.std.specs.Prelude.{if◌then◌else◌, ◌&&◌, ◌==◌, nat_lt}
-use Rattle.die_image.specs.declared.head.ImageHead.{ImageHead}
+use Rattle.rssd_core.specs.DeviceValue.{DeviceValue}
 use Rattle.rssd_io.specs.Event.{Event, HasFailed}
 use Rattle.rssd_script.specs.declared.lines.Line.{Line}
 use Rattle.rssd_script.specs.declared.lines.Line.TheVariants.{Write, Read, Trim, Idle}
@@ -24,7 +24,7 @@ use Rattle.rssd_lab.specs.declared.status.Stop.{Stop}
 use Rattle.rssd_lab.specs.declared.status.Stop.TheVariants as stops
 use Rattle.rssd_lab.specs.declared.pace.Paced.{Paced}
 use Rattle.rssd_lab.specs.Pacing.{inner_of}
-use Rattle.rssd_lab.specs.Blank.{StopsBlank}
+use Rattle.rssd_lab.specs.Started.{StopsFrom}
 use Rattle.rssd_lab.specs.Top.{GivesLine, SaysStopped, bad_line}
 use Rattle.rssd_lab.specs.Listed.{RunEnds, PlaysList, StopsList}
 use Rattle.rssd_lab.specs.Ends.{SaysPlay, SaysDraw, PlaysInput, IsOutside, IsUnplayed, IsCutOff, IsShortOfMemory, IsShortOfDrawn, IsUntold, IsUntoldDrawn}
@@ -49,16 +49,17 @@ Stops log old why new = StopsStream log (inner_of old) why (inner_of new)
 
 -- ---- the lines of the input
 
-module _ {S P : Type 0} (log : S → List Event) (telling : Telling) (head : ImageHead) (old new : Paced (Stream S) P)
+module _ {S P : Type 0} (log : S → List Event) (telling : Telling) (Start : DeviceValue → Type 0) (old new : Paced (Stream S) P)
     (none_ahead : ahead_of (inner_of old) ≡ []) (none_counted : lines_of (inner_of old) ≡ 0) (out : List Event) where
   came : (last : Paced (Stream S) P) (lines : List Line) → AllGiven (Gives log) old lines last → AllGiven (TakesLine log) (inner_of old) lines (inner_of last)
   came last lines given = through inner_of (TakesLine log) old last lines given
 
-  plays_input : (out_after : List Event) → AllListed (Gives log) (Ended log) telling head old new out out_after
-      → PlaysInput telling head (input (log (inner_of old).source) (log (inner_of new).source)) (output out out_after)
+  plays_input : (out_after : List Event) → AllListed (Gives log) (Ended log) telling Start old new out out_after
+      → PlaysInput telling Start (input (log (inner_of old).source) (log (inner_of new).source)) (output out out_after)
   plays_input out_after all = at all.ends
     where
-      at : Ended log all.last new ⊎ ((length all.listed ≡ 2 ^ 64 - 1) × (new ≡ all.last)) → PlaysInput telling head (input (log (inner_of old).source) (log (inner_of new).source)) (output out out_after)
+      at : Ended log all.last new ⊎ ((length all.listed ≡ 2 ^ 64 - 1) × (new ≡ all.last))
+          → PlaysInput telling Start (input (log (inner_of old).source) (log (inner_of new).source)) (output out out_after)
       at (inl none) = record {
         lines = all.listed;
         came = record {
@@ -79,8 +80,8 @@ module _ {S P : Type 0} (log : S → List Event) (telling : Telling) (head : Ima
         plays = all.plays;
       }
 
-  cut_off : (out_after : List Event) → ListedUpTo (Gives log) (Stops log) telling head ends.Fault old new out out_after
-      → IsCutOff telling head (input (log (inner_of old).source) (log (inner_of new).source)) (output out out_after)
+  cut_off : (out_after : List Event) → ListedUpTo (Gives log) (Stops log) telling Start ends.Fault old new out out_after
+      → IsCutOff telling Start (input (log (inner_of old).source) (log (inner_of new).source)) (output out out_after)
   cut_off out_after upto = record {
     lines = upto.listed;
     came = record {
@@ -92,8 +93,8 @@ module _ {S P : Type 0} (log : S → List Event) (telling : Telling) (head : Ima
     plays = upto.plays;
   }
 
-  short : (out_after : List Event) → ListedUpTo (Gives log) (Stops log) telling head ends.OutOfMemory old new out out_after
-      → IsShortOfMemory telling head (input (log (inner_of old).source) (log (inner_of new).source)) (output out out_after)
+  short : (out_after : List Event) → ListedUpTo (Gives log) (Stops log) telling Start ends.OutOfMemory old new out out_after
+      → IsShortOfMemory telling Start (input (log (inner_of old).source) (log (inner_of new).source)) (output out out_after)
   short out_after upto = record {
     lines = upto.listed;
     came = (
@@ -103,8 +104,8 @@ module _ {S P : Type 0} (log : S → List Event) (telling : Telling) (head : Ima
     plays = upto.plays;
   }
 
-  outside : (number : ℕ) (between out_after : List Event) → ListedUpTo (Gives log) (Stops log) telling head (ends.BadLine number) old new out between → GivesLine (bad_line number) between out_after
-      → IsOutside telling head (input (log (inner_of old).source) (log (inner_of new).source)) (output out out_after)
+  outside : (number : ℕ) (between out_after : List Event) → ListedUpTo (Gives log) (Stops log) telling Start (ends.BadLine number) old new out between → GivesLine (bad_line number) between out_after
+      → IsOutside telling Start (input (log (inner_of old).source) (log (inner_of new).source)) (output out out_after)
   outside number between out_after upto line =
       let given = came upto.last upto.listed upto.given in
       let bad = upto.after in
@@ -119,8 +120,8 @@ module _ {S P : Type 0} (log : S → List Event) (telling : Telling) (head : Ima
         line = line;
       }
 
-  unplayed : (number : ℕ) (between out_after : List Event) → ListedUnplayed (Gives log) telling head number old new out between → GivesLine (bad_line number) between out_after
-      → IsUnplayed telling head (input (log (inner_of old).source) (log (inner_of new).source)) (output out out_after)
+  unplayed : (number : ℕ) (between out_after : List Event) → ListedUnplayed (Gives log) telling Start number old new out between → GivesLine (bad_line number) between out_after
+      → IsUnplayed telling Start (input (log (inner_of old).source) (log (inner_of new).source)) (output out out_after)
   unplayed number between out_after upto line = record {
     lines = upto.listed;
     last = upto.other;
@@ -133,8 +134,8 @@ module _ {S P : Type 0} (log : S → List Event) (telling : Telling) (head : Ima
     line = line;
   }
 
-  untold : (between : List Event) → ListedUntold (Gives log) (Ended log) telling head old new out between → HasFailed out between
-      → IsUntold telling head (input (log (inner_of old).source) (log (inner_of new).source)) (output out between)
+  untold : (between : List Event) → ListedUntold (Gives log) (Ended log) telling Start old new out between → HasFailed out between
+      → IsUntold telling Start (input (log (inner_of old).source) (log (inner_of new).source)) (output out between)
   untold between cut failed = record { lines = cut.listed; came = (ahead_of (inner_of new), streams cut.ends); plays = cut.plays; failed = failed }
     where
       streams : (new ≡ cut.last) ⊎ Ended log cut.last new → Streamed (log (inner_of old).source) (log (inner_of new).source) cut.listed (ahead_of (inner_of new))
@@ -144,35 +145,36 @@ module _ {S P : Type 0} (log : S → List Event) (telling : Telling) (head : Ima
       streams (inr none) =
           streamed_text log (inner_of old) (inner_of cut.last) (inner_of new) cut.listed none_ahead (came cut.last cut.listed cut.given) [] none.takes (inr (none.none, none.ended))
 
-  stopped : (why : Stop) (between out_after : List Event) (status : Status) → StopsBlank (Gives log) (Ended log) (Stops log) telling head why old new out between → SaysStopped why status between out_after
-      → SaysPlay telling head (input (log (inner_of old).source) (log (inner_of new).source)) (output out out_after) status
+  stopped : (why : Stop) (between out_after : List Event) (status : Status) → StopsFrom (Gives log) (Ended log) (Stops log) telling Start why old new out between
+      → SaysStopped why status between out_after → SaysPlay telling Start (input (log (inner_of old).source) (log (inner_of new).source)) (output out out_after) status
   stopped (stops.Lines (ends.OutOfMemory)) between out_after status run says =
-      let listed = listed_up_to (Gives log) (Ended log) (Stops log) telling head old new out between ends.OutOfMemory run in
-      subst (SaysPlay telling head (input (log (inner_of old).source) (log (inner_of new).source)) (output out out_after)) (sym says.0)
-      (inr (short out_after (subst (λ (after : List Event). ListedUpTo (Gives log) (Stops log) telling head ends.OutOfMemory old new out after) (sym says.1) listed)))
+      let listed = listed_up_to (Gives log) (Ended log) (Stops log) telling Start old new out between ends.OutOfMemory run in
+      subst (SaysPlay telling Start (input (log (inner_of old).source) (log (inner_of new).source)) (output out out_after)) (sym says.0)
+      (inr (short out_after (subst (λ (after : List Event). ListedUpTo (Gives log) (Stops log) telling Start ends.OutOfMemory old new out after) (sym says.1) listed)))
   stopped (stops.Lines (ends.Fault)) between out_after status run says =
-      let listed = listed_up_to (Gives log) (Ended log) (Stops log) telling head old new out between ends.Fault run in
-      subst (SaysPlay telling head (input (log (inner_of old).source) (log (inner_of new).source)) (output out out_after)) (sym says.0)
-      (cut_off out_after (subst (λ (after : List Event). ListedUpTo (Gives log) (Stops log) telling head ends.Fault old new out after) (sym says.1) listed))
+      let listed = listed_up_to (Gives log) (Ended log) (Stops log) telling Start old new out between ends.Fault run in
+      subst (SaysPlay telling Start (input (log (inner_of old).source) (log (inner_of new).source)) (output out out_after)) (sym says.0)
+      (cut_off out_after (subst (λ (after : List Event). ListedUpTo (Gives log) (Stops log) telling Start ends.Fault old new out after) (sym says.1) listed))
   stopped (stops.Lines (ends.BadLine number)) between out_after status run says =
-      subst (SaysPlay telling head (input (log (inner_of old).source) (log (inner_of new).source)) (output out out_after)) (sym says.0)
-      (inl (outside number between out_after (listed_up_to (Gives log) (Ended log) (Stops log) telling head old new out between (ends.BadLine number) run) says.1))
+      subst (SaysPlay telling Start (input (log (inner_of old).source) (log (inner_of new).source)) (output out out_after)) (sym says.0)
+      (inl (outside number between out_after (listed_up_to (Gives log) (Ended log) (Stops log) telling Start old new out between (ends.BadLine number) run) says.1))
   stopped (stops.NotPlayed number) between out_after status run says =
-      subst (SaysPlay telling head (input (log (inner_of old).source) (log (inner_of new).source)) (output out out_after)) (sym says.0)
-      (inr (unplayed number between out_after (listed_unplayed (Gives log) (Ended log) (Stops log) telling head old new out between number run) says.1))
+      subst (SaysPlay telling Start (input (log (inner_of old).source) (log (inner_of new).source)) (output out out_after)) (sym says.0)
+      (inr (unplayed number between out_after (listed_unplayed (Gives log) (Ended log) (Stops log) telling Start old new out between number run) says.1))
   stopped (stops.Sink) between out_after status run says =
-      let cut = untold between (listed_untold (Gives log) (Ended log) (Stops log) telling head old new out between run) (sink_failed (Gives log) (Ended log) (Stops log) telling run.0 old new out between run.2) in
-      subst (SaysPlay telling head (input (log (inner_of old).source) (log (inner_of new).source)) (output out out_after)) (sym says.0)
-      (subst (λ (after : List Event). IsUntold telling head (input (log (inner_of old).source) (log (inner_of new).source)) (output out after)) (sym says.1) cut)
+      let cut = untold between (listed_untold (Gives log) (Ended log) (Stops log) telling Start old new out between run)
+      (sink_failed (Gives log) (Ended log) (Stops log) telling run.0 old new out between run.2) in
+      subst (SaysPlay telling Start (input (log (inner_of old).source) (log (inner_of new).source)) (output out out_after)) (sym says.0)
+      (subst (λ (after : List Event). IsUntold telling Start (input (log (inner_of old).source) (log (inner_of new).source)) (output out after)) (sym says.1) cut)
   stopped (stops.OutOfMemory) between out_after status run says =
-      subst (SaysPlay telling head (input (log (inner_of old).source) (log (inner_of new).source)) (output out out_after)) (sym says.0)
+      subst (SaysPlay telling Start (input (log (inner_of old).source) (log (inner_of new).source)) (output out out_after)) (sym says.0)
       (inl (ap (λ (lines : Paced (Stream S) P). log (inner_of lines).source) run.0, says.1 ∙ run.1))
 
-  pub play_says : (out_after : List Event) (status : Status) → RunEnds (Gives log) (Ended log) (Stops log) telling head old new out out_after status
-      → SaysPlay telling head (input (log (inner_of old).source) (log (inner_of new).source)) (output out out_after) status
+  pub play_says : (out_after : List Event) (status : Status) → RunEnds (Gives log) (Ended log) (Stops log) telling Start old new out out_after status
+      → SaysPlay telling Start (input (log (inner_of old).source) (log (inner_of new).source)) (output out out_after) status
   play_says out_after status (inl done) =
-      subst (SaysPlay telling head (input (log (inner_of old).source) (log (inner_of new).source)) (output out out_after)) (sym done.0)
-      (plays_input out_after (all_listed (Gives log) (Ended log) (Stops log) telling head old new out out_after done.1))
+      subst (SaysPlay telling Start (input (log (inner_of old).source) (log (inner_of new).source)) (output out out_after)) (sym done.0)
+      (plays_input out_after (all_listed (Gives log) (Ended log) (Stops log) telling Start old new out out_after done.1))
   play_says out_after status (inr stop) = stopped stop.0 stop.1 out_after status stop.2 stop.3
 
 -- ---- lines that are drawn
@@ -207,7 +209,7 @@ DrawsNoMore old new = DrawsNone (inner_of old) (inner_of new)
 abbrev DrawsStop : {P : Type 0} → Paced Drawn P → LinesEnd → Paced Drawn P → Type 0
 DrawsStop old why new = why ≡ ends.OutOfMemory
 
-module _ {P : Type 0} (telling : Telling) (head : ImageHead) (old new : Paced Drawn P) (seed : ℕ) (start : state_of (inner_of old) ≡ record { words = seed; turn = 0 })
+module _ {P : Type 0} (telling : Telling) (Start : DeviceValue → Type 0) (old new : Paced Drawn P) (seed : ℕ) (start : state_of (inner_of old) ≡ record { words = seed; turn = 0 })
     (few : left_of (inner_of old) < 2 ^ 64) (out : List Event) where
   first : (last : Paced Drawn P) (lines : List Line) → AllGiven Draws old lines last
       → (lines ≡ drawn_lines (plan_of (inner_of old)) (length lines) seed) × (left_of (inner_of last) + length lines ≡ left_of (inner_of old))
@@ -215,62 +217,64 @@ module _ {P : Type 0} (telling : Telling) (head : ImageHead) (old new : Paced Dr
       let is = first_lines (inner_of old) (inner_of last) lines (through inner_of DrawsLine old last lines given) in
       (is.0 ∙ ap (drawn_from (plan_of (inner_of old)) (length lines)) start, is.1)
 
-  plays_drawn : (out_after : List Event) → AllListed Draws DrawsNoMore telling head old new out out_after → PlaysList telling head (drawn_lines (plan_of (inner_of old)) (left_of (inner_of old)) seed) out out_after
+  plays_drawn : (out_after : List Event) → AllListed Draws DrawsNoMore telling Start old new out out_after
+      → PlaysList telling Start (drawn_lines (plan_of (inner_of old)) (left_of (inner_of old)) seed) out out_after
   plays_drawn out_after all =
       let is = first all.last all.listed all.given in
       let none : length all.listed ≡ left_of (inner_of old) = elim all.ends [ inl none ↦ omega (arith, none.none, is.1) | inr many ↦ omega (arith, many.0, is.1, few) ] in
       let lines : all.listed ≡ drawn_lines (plan_of (inner_of old)) (left_of (inner_of old)) seed = is.0 ∙ ap (λ (k : ℕ). drawn_lines (plan_of (inner_of old)) k seed) none in
-      subst (λ (list : List Line). PlaysList telling head list out out_after) lines all.plays
+      subst (λ (list : List Line). PlaysList telling Start list out out_after) lines all.plays
 
-  short_drawn : (out_after : List Event) → ListedUpTo Draws DrawsStop telling head ends.OutOfMemory old new out out_after
-      → IsShortOfDrawn telling head (plan_of (inner_of old)) seed (left_of (inner_of old)) (output out out_after)
+  short_drawn : (out_after : List Event) → ListedUpTo Draws DrawsStop telling Start ends.OutOfMemory old new out out_after
+      → IsShortOfDrawn telling Start (plan_of (inner_of old)) seed (left_of (inner_of old)) (output out out_after)
   short_drawn out_after upto =
       let is = first upto.last upto.listed upto.given in
       record {
         k = length upto.listed;
         before = omega (arith, is.1);
-        plays = subst (λ (list : List Line). StopsList telling head (stops.Lines ends.OutOfMemory) list out out_after) is.0 upto.plays;
+        plays = subst (λ (list : List Line). StopsList telling Start (stops.Lines ends.OutOfMemory) list out out_after) is.0 upto.plays;
       }
 
-  untold_drawn : (between : List Event) → ListedUntold Draws DrawsNoMore telling head old new out between → HasFailed out between
-      → IsUntoldDrawn telling head (plan_of (inner_of old)) seed (left_of (inner_of old)) (output out between)
+  untold_drawn : (between : List Event) → ListedUntold Draws DrawsNoMore telling Start old new out between → HasFailed out between
+      → IsUntoldDrawn telling Start (plan_of (inner_of old)) seed (left_of (inner_of old)) (output out between)
   untold_drawn between cut failed =
       let is = first cut.last cut.listed cut.given in
       record {
         k = length cut.listed;
         before = omega (arith, is.1);
-        plays = subst (λ (list : List Line). StopsList telling head stops.Sink list out between) is.0 cut.plays;
+        plays = subst (λ (list : List Line). StopsList telling Start stops.Sink list out between) is.0 cut.plays;
         failed = failed;
       }
 
-  stopped_drawn : (why : Stop) (between out_after : List Event) (status : Status) → StopsBlank Draws DrawsNoMore DrawsStop telling head why old new out between → SaysStopped why status between out_after
-      → SaysDraw telling head (plan_of (inner_of old)) seed (left_of (inner_of old)) (output out out_after) status
+  stopped_drawn : (why : Stop) (between out_after : List Event) (status : Status) → StopsFrom Draws DrawsNoMore DrawsStop telling Start why old new out between
+      → SaysStopped why status between out_after → SaysDraw telling Start (plan_of (inner_of old)) seed (left_of (inner_of old)) (output out out_after) status
   stopped_drawn (stops.Lines (ends.OutOfMemory)) between out_after status run says =
-      let listed = listed_up_to Draws DrawsNoMore DrawsStop telling head old new out between ends.OutOfMemory run in
-      subst (SaysDraw telling head (plan_of (inner_of old)) seed (left_of (inner_of old)) (output out out_after)) (sym says.0)
-      (inr (short_drawn out_after (subst (λ (after : List Event). ListedUpTo Draws DrawsStop telling head ends.OutOfMemory old new out after) (sym says.1) listed)))
+      let listed = listed_up_to Draws DrawsNoMore DrawsStop telling Start old new out between ends.OutOfMemory run in
+      subst (SaysDraw telling Start (plan_of (inner_of old)) seed (left_of (inner_of old)) (output out out_after)) (sym says.0)
+      (inr (short_drawn out_after (subst (λ (after : List Event). ListedUpTo Draws DrawsStop telling Start ends.OutOfMemory old new out after) (sym says.1) listed)))
   stopped_drawn (stops.Lines (ends.Fault)) between out_after status run says =
-      let listed = listed_up_to Draws DrawsNoMore DrawsStop telling head old new out between ends.Fault run in
+      let listed = listed_up_to Draws DrawsNoMore DrawsStop telling Start old new out between ends.Fault run in
       let bad : ends.Fault ≡ ends.OutOfMemory = listed.after in
       absurd cc
   stopped_drawn (stops.Lines (ends.BadLine number)) between out_after status run says =
-      let listed = listed_up_to Draws DrawsNoMore DrawsStop telling head old new out between (ends.BadLine number) run in
+      let listed = listed_up_to Draws DrawsNoMore DrawsStop telling Start old new out between (ends.BadLine number) run in
       let bad : ends.BadLine number ≡ ends.OutOfMemory = listed.after in
       absurd cc
   stopped_drawn (stops.NotPlayed number) between out_after status run says =
-      let listed = listed_unplayed Draws DrawsNoMore DrawsStop telling head old new out between number run in
+      let listed = listed_unplayed Draws DrawsNoMore DrawsStop telling Start old new out between number run in
       let is = first new (listed.listed ++ listed.other ∷ []) listed.given in
       absurd (listed.unplayed (last_played (plan_of (inner_of old)) _ (length (listed.listed ++ listed.other ∷ [])) listed.listed listed.other is.0))
   stopped_drawn (stops.Sink) between out_after status run says =
-      let cut = untold_drawn between (listed_untold Draws DrawsNoMore DrawsStop telling head old new out between run) (sink_failed Draws DrawsNoMore DrawsStop telling run.0 old new out between run.2) in
-      subst (SaysDraw telling head (plan_of (inner_of old)) seed (left_of (inner_of old)) (output out out_after)) (sym says.0)
-      (subst (λ (after : List Event). IsUntoldDrawn telling head (plan_of (inner_of old)) seed (left_of (inner_of old)) (output out after)) (sym says.1) cut)
+      let cut = untold_drawn between (listed_untold Draws DrawsNoMore DrawsStop telling Start old new out between run)
+      (sink_failed Draws DrawsNoMore DrawsStop telling run.0 old new out between run.2) in
+      subst (SaysDraw telling Start (plan_of (inner_of old)) seed (left_of (inner_of old)) (output out out_after)) (sym says.0)
+      (subst (λ (after : List Event). IsUntoldDrawn telling Start (plan_of (inner_of old)) seed (left_of (inner_of old)) (output out after)) (sym says.1) cut)
   stopped_drawn (stops.OutOfMemory) between out_after status run says =
-      subst (SaysDraw telling head (plan_of (inner_of old)) seed (left_of (inner_of old)) (output out out_after)) (sym says.0) (inl (says.1 ∙ run.1))
+      subst (SaysDraw telling Start (plan_of (inner_of old)) seed (left_of (inner_of old)) (output out out_after)) (sym says.0) (inl (says.1 ∙ run.1))
 
-  pub draw_says : (out_after : List Event) (status : Status) → RunEnds Draws DrawsNoMore DrawsStop telling head old new out out_after status
-      → SaysDraw telling head (plan_of (inner_of old)) seed (left_of (inner_of old)) (output out out_after) status
+  pub draw_says : (out_after : List Event) (status : Status) → RunEnds Draws DrawsNoMore DrawsStop telling Start old new out out_after status
+      → SaysDraw telling Start (plan_of (inner_of old)) seed (left_of (inner_of old)) (output out out_after) status
   draw_says out_after status (inl done) =
-      subst (SaysDraw telling head (plan_of (inner_of old)) seed (left_of (inner_of old)) (output out out_after)) (sym done.0)
-      (plays_drawn out_after (all_listed Draws DrawsNoMore DrawsStop telling head old new out out_after done.1))
+      subst (SaysDraw telling Start (plan_of (inner_of old)) seed (left_of (inner_of old)) (output out out_after)) (sym done.0)
+      (plays_drawn out_after (all_listed Draws DrawsNoMore DrawsStop telling Start old new out out_after done.1))
   draw_says out_after status (inr stop) = stopped_drawn stop.0 stop.1 out_after status stop.2 stop.3

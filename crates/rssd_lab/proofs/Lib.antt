@@ -1,6 +1,6 @@
 pub mod Chains
 pub mod Handed
-pub mod BlankMounts
+pub mod Starts
 pub mod Told
 pub mod Stopped
 pub mod Listed

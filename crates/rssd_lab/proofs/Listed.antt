@@ -3,7 +3,6 @@ use Rattle.std.proofs.Common.{◌≡◌, ◌⊎◌, inl, inr, ℕ, ◌+◌, ◌-
 use Rattle.std.specs.Prelude.{min}
 use Rattle.cell_die.specs.Counts.{raised}
 use Rattle.count_die.specs.declared.tally.Totals.{Totals}
-use Rattle.die_image.specs.declared.head.ImageHead.{ImageHead}
 use Rattle.rssd_core.specs.DeviceValue.{Numbers, DeviceValue}
 use Rattle.rssd_io.specs.Event.{Event}
 use Rattle.rssd_script.specs.declared.lines.Line.{Line}
@@ -18,7 +17,7 @@ use Rattle.rssd_lab.specs.declared.telling.Telling.{Telling}
 use Rattle.rssd_lab.specs.declared.status.Stop.TheVariants.{Lines, NotPlayed, Sink}
 use Rattle.rssd_lab.specs.Chain.{Chain}
 use Rattle.rssd_lab.specs.Runs.{Answered, At, PlaysLines, StopsAtSink, state_at}
-use Rattle.rssd_lab.specs.Blank.{IsBlankDevice, RunsBlank, StopsBlank}
+use Rattle.rssd_lab.specs.Started.{RunsFrom, StopsFrom}
 use Rattle.rssd_lab.specs.Listed.{NextOf, PlaysList, StopsList}
 
 -- the lines that were answered, and more behind them
@@ -77,40 +76,45 @@ module _ {L : Type 0} (gives : L → Line → L → Type 0) (d : Numbers) (telli
       omega (arith, one, counted chain.0 new rest (omega (arith, one)) chain.2)
 
 -- all lines of a supply came, and were played and told
-pub record AllListed {L : Type 0} (gives : L → Line → L → Type 0) (ended : L → L → Type 0) (telling : Telling) (head : ImageHead) (lines lines_after : L) (log log_after : List Event) : Type 0 where
+pub record AllListed {L : Type 0} (gives : L → Line → L → Type 0) (ended : L → L → Type 0) (telling : Telling)
+    (Start : DeviceValue → Type 0) (lines lines_after : L) (log log_after : List Event) : Type 0 where
   pub listed : List Line
   pub last : L
   pub given : AllGiven gives lines listed last
   pub ends : ended last lines_after ⊎ ((length listed ≡ 2 ^ 64 - 1) × (lines_after ≡ last))
-  pub plays : PlaysList telling head listed log log_after
+  pub plays : PlaysList telling Start listed log log_after
 
 -- the same up to where none came
-pub record ListedUpTo {L : Type 0} (gives : L → Line → L → Type 0) (stops : L → LinesEnd → L → Type 0) (telling : Telling) (head : ImageHead) (why : LinesEnd) (lines lines_after : L) (log log_after : List Event) : Type 0 where
+pub record ListedUpTo {L : Type 0} (gives : L → Line → L → Type 0) (stops : L → LinesEnd → L → Type 0) (telling : Telling)
+    (Start : DeviceValue → Type 0) (why : LinesEnd) (lines lines_after : L) (log log_after : List Event) : Type 0 where
   pub listed : List Line
   pub last : L
   pub given : AllGiven gives lines listed last
   pub after : stops last why lines_after
-  pub plays : StopsList telling head (Lines why) listed log log_after
+  pub plays : StopsList telling Start (Lines why) listed log log_after
 
 -- the same up to one that no device plays
-pub record ListedUnplayed {L : Type 0} (gives : L → Line → L → Type 0) (telling : Telling) (head : ImageHead) (number : ℕ) (lines lines_after : L) (log log_after : List Event) : Type 0 where
+pub record ListedUnplayed {L : Type 0} (gives : L → Line → L → Type 0) (telling : Telling)
+    (Start : DeviceValue → Type 0) (number : ℕ) (lines lines_after : L) (log log_after : List Event) : Type 0 where
   pub listed : List Line
   pub other : Line
   pub given : AllGiven gives lines (listed ++ other ∷ []) lines_after
   pub unplayed : ¬ IsPlayed other
   pub number_is : number ≡ raised (length listed)
-  pub plays : StopsList telling head (NotPlayed number) (listed ++ other ∷ []) log log_after
+  pub plays : StopsList telling Start (NotPlayed number) (listed ++ other ∷ []) log log_after
 
 -- the same up to where a call of the sink failed
-pub record ListedUntold {L : Type 0} (gives : L → Line → L → Type 0) (ended : L → L → Type 0) (telling : Telling) (head : ImageHead) (lines lines_after : L) (log log_after : List Event) : Type 0 where
+pub record ListedUntold {L : Type 0} (gives : L → Line → L → Type 0) (ended : L → L → Type 0) (telling : Telling)
+    (Start : DeviceValue → Type 0) (lines lines_after : L) (log log_after : List Event) : Type 0 where
   pub listed : List Line
   pub last : L
   pub given : AllGiven gives lines listed last
   pub ends : (lines_after ≡ last) ⊎ ended last lines_after
-  pub plays : StopsList telling head Sink listed log log_after
+  pub plays : StopsList telling Start Sink listed log log_after
 
-module _ {L : Type 0} (gives : L → Line → L → Type 0) (ended : L → L → Type 0) (stops : L → LinesEnd → L → Type 0) (telling : Telling) (head : ImageHead) (lines lines_after : L) (log log_after : List Event) where
-  pub all_listed : RunsBlank gives ended telling head lines lines_after log log_after → AllListed gives ended telling head lines lines_after log log_after
+module _ {L : Type 0} (gives : L → Line → L → Type 0) (ended : L → L → Type 0) (stops : L → LinesEnd → L → Type 0) (telling : Telling)
+    (Start : DeviceValue → Type 0) (lines lines_after : L) (log log_after : List Event) where
+  pub all_listed : RunsFrom gives ended telling Start lines lines_after log log_after → AllListed gives ended telling Start lines lines_after log log_after
   all_listed run =
       let device : DeviceValue = run.0 in
       let runs = run.2 in
@@ -139,7 +143,7 @@ module _ {L : Type 0} (gives : L → Line → L → Type 0) (ended : L → L →
         );
       }
 
-  pub listed_up_to : (why : LinesEnd) → StopsBlank gives ended stops telling head (Lines why) lines lines_after log log_after → ListedUpTo gives stops telling head why lines lines_after log log_after
+  pub listed_up_to : (why : LinesEnd) → StopsFrom gives ended stops telling Start (Lines why) lines lines_after log log_after → ListedUpTo gives stops telling Start why lines lines_after log log_after
   listed_up_to why run =
       let device : DeviceValue = run.0 in
       let runs = run.2 in
@@ -165,7 +169,8 @@ module _ {L : Type 0} (gives : L → Line → L → Type 0) (ended : L → L →
         );
       }
 
-  pub listed_unplayed : (number : ℕ) → StopsBlank gives ended stops telling head (NotPlayed number) lines lines_after log log_after → ListedUnplayed gives telling head number lines lines_after log log_after
+  pub listed_unplayed : (number : ℕ) → StopsFrom gives ended stops telling Start (NotPlayed number) lines lines_after log log_after
+      → ListedUnplayed gives telling Start number lines lines_after log log_after
   listed_unplayed number run =
       let device : DeviceValue = run.0 in
       let runs = run.2 in
@@ -183,7 +188,7 @@ module _ {L : Type 0} (gives : L → Line → L → Type 0) (ended : L → L →
             (came gives device.numbers telling start last plays.answered (other ∷ []) runs.last.lines plays.plays (one_more gives device.numbers telling plays.last runs.last.lines other plays.after.1)));
         unplayed = plays.after.2;
         number_is = omega (arith, runs.plays.1, many, ap (λ (a : Answers). a.lines) runs.first.answers, length_lines plays.answered);
-        plays = subst (λ (all : List Line). StopsList telling head (NotPlayed number) all log log_after) behind (
+        plays = subst (λ (all : List Line). StopsList telling Start (NotPlayed number) all log log_after) behind (
           device,
           run.1,
           record {
@@ -205,7 +210,7 @@ module _ {L : Type 0} (gives : L → Line → L → Type 0) (ended : L → L →
         );
       }
 
-  untold : (device : DeviceValue) → IsBlankDevice head device → StopsAtSink gives ended stops telling device lines lines_after log log_after → ListedUntold gives ended telling head lines lines_after log log_after
+  untold : (device : DeviceValue) → Start device → StopsAtSink gives ended stops telling device lines lines_after log log_after → ListedUntold gives ended telling Start lines lines_after log log_after
   untold device blank (inl first) = record {
     listed = [];
     last = lines;
@@ -270,5 +275,5 @@ module _ {L : Type 0} (gives : L → Line → L → Type 0) (ended : L → L →
         );
       }
 
-  pub listed_untold : StopsBlank gives ended stops telling head Sink lines lines_after log log_after → ListedUntold gives ended telling head lines lines_after log log_after
+  pub listed_untold : StopsFrom gives ended stops telling Start Sink lines lines_after log log_after → ListedUntold gives ended telling Start lines lines_after log log_after
   listed_untold run = untold run.0 run.1 run.2

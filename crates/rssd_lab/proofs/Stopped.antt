@@ -1,7 +1,6 @@
 -- What a run leaves that stopped, and that its log has grown.
 use Rattle.std.proofs.Common.{◌≡◌, inl, inr, List, [], ◌∷◌, ◌++◌, Result, Ok, Err, refl, ap, sym, ◌∙◌, subst, append-nil}
-use Rattle.std.specs.Prelude.{IfErr}
-use Rattle.die_image.specs.declared.head.ImageHead.{ImageHead}
+use Rattle.std.specs.Prelude.{OnOk, IfErr}
 use Rattle.rssd_core.specs.DeviceValue.{Numbers, DeviceValue}
 use Rattle.rssd_io.specs.Event.{Event, Grows, HasFailed}
 use Rattle.rssd_io.proofs.Logs.{came_behind}
@@ -14,7 +13,7 @@ use Rattle.rssd_lab.specs.declared.status.Stop.{Stop}
 use Rattle.rssd_lab.specs.declared.status.Stop.TheVariants.{Lines, NotPlayed, Sink, OutOfMemory}
 use Rattle.rssd_lab.specs.Chain.{Chain}
 use Rattle.rssd_lab.specs.Runs.{Answered, At, PlaysLines, StopsLines, StopsRun, IsFirst, handed, told_for, run_head, state_at}
-use Rattle.rssd_lab.specs.Blank.{IsBlankDevice, StopsBlank}
+use Rattle.rssd_lab.specs.Started.{RunsFrom, StopsFrom}
 
 pub grew : {L : Type 0} (gives : L → Line → L → Type 0) (d : Numbers) (telling : Telling) (old new : At L) (answered : List Answered) → PlaysLines gives d telling old answered new → Grows old.log new.log
 unfolding Chain
@@ -68,14 +67,32 @@ module _ {L : Type 0} (gives : L → Line → L → Type 0) (ended : L → L →
       let more = grew gives device.numbers telling (state_at lines device end.score start) (record end.last { lines = all.last }) all.answered all.plays in
       failed_later log end.last.log log_after (handed (run_head ∷ []) ++ more.0) (came_behind log start end.last.log (handed (run_head ∷ [])) more.0 refl more.1) end.failed
 
-  blank_stops : (head : ImageHead) → IsBlankDevice head device → (lines after : L) (log log_after : List Event) (why : Stop)
-      → StopsRun gives ended stops telling device why lines after log log_after → StopsBlank gives ended stops telling head why lines after log log_after
-  blank_stops head blank lines after log log_after (Lines why) stopped = (device, blank, stopped)
-  blank_stops head blank lines after log log_after (NotPlayed number) stopped = (device, blank, stopped)
-  blank_stops head blank lines after log log_after Sink stopped = (device, blank, stopped)
-  blank_stops head blank lines after log log_after OutOfMemory stopped = absurd stopped
+  started_stops : (Start : DeviceValue → Type 0) → Start device → (lines after : L) (log log_after : List Event) (why : Stop)
+      → StopsRun gives ended stops telling device why lines after log log_after → StopsFrom gives ended stops telling Start why lines after log log_after
+  started_stops Start begins lines after log log_after (Lines why) stopped = (device, begins, stopped)
+  started_stops Start begins lines after log log_after (NotPlayed number) stopped = (device, begins, stopped)
+  started_stops Start begins lines after log log_after Sink stopped = (device, begins, stopped)
+  started_stops Start begins lines after log log_after OutOfMemory stopped = absurd stopped
 
-  pub stops_blank : (r : Result (Unit {0}) Stop) (head : ImageHead) → IsBlankDevice head device → (lines after : L) (log log_after : List Event)
-      → IfErr r (λ why. StopsRun gives ended stops telling device why lines after log log_after) → IfErr r (λ why. StopsBlank gives ended stops telling head why lines after log log_after)
-  stops_blank (Ok x) head blank lines after log log_after stopped = tt
-  stops_blank (Err why) head blank lines after log log_after stopped = blank_stops head blank lines after log log_after why stopped
+  pub stops_from : (r : Result (Unit {0}) Stop) (Start : DeviceValue → Type 0) → Start device → (lines after : L) (log log_after : List Event)
+      → IfErr r (λ why. StopsRun gives ended stops telling device why lines after log log_after) → IfErr r (λ why. StopsFrom gives ended stops telling Start why lines after log log_after)
+  stops_from (Ok x) Start begins lines after log log_after stopped = tt
+  stops_from (Err why) Start begins lines after log log_after stopped = started_stops Start begins lines after log log_after why stopped
+
+-- where each device of the one start is one of the other
+module _ {L : Type 0} (gives : L → Line → L → Type 0) (ended : L → L → Type 0) (stops : L → LinesEnd → L → Type 0) (telling : Telling)
+    (S T : DeviceValue → Type 0) (each : (device : DeviceValue) → S device → T device) (lines after : L) (log log_after : List Event) where
+  pub runs_more : {E : Type 0} (r : Result (Unit {0}) E) → OnOk r (RunsFrom gives ended telling S lines after log log_after) → OnOk r (RunsFrom gives ended telling T lines after log log_after)
+  runs_more (Ok x) run = (run.0, each run.0 run.1, run.2)
+  runs_more (Err why) run = tt
+
+  stops_so : (why : Stop) → StopsFrom gives ended stops telling S why lines after log log_after → StopsFrom gives ended stops telling T why lines after log log_after
+  stops_so (Lines why) stop = (stop.0, each stop.0 stop.1, stop.2)
+  stops_so (NotPlayed number) stop = (stop.0, each stop.0 stop.1, stop.2)
+  stops_so Sink stop = (stop.0, each stop.0 stop.1, stop.2)
+  stops_so OutOfMemory stop = stop
+
+  pub stops_more : (r : Result (Unit {0}) Stop) → IfErr r (λ why. StopsFrom gives ended stops telling S why lines after log log_after)
+      → IfErr r (λ why. StopsFrom gives ended stops telling T why lines after log log_after)
+  stops_more (Ok x) stop = tt
+  stops_more (Err why) stop = stops_so why stop

@@ -4,6 +4,7 @@ use Rattle.std.specs.List.{AllByRecursion}
 use Rattle.cell_die.specs.Counts.{raised}
 use Rattle.die_image.specs.declared.head.ImageHead.{ImageHead}
 use Rattle.die_image.specs.Schemes.{row_of}
+use Rattle.rssd_core.specs.DeviceValue.{DeviceValue}
 use Rattle.rssd_io.specs.Event.{Event, HasEnded}
 use Rattle.rssd_script.specs.declared.lines.Line.{Line}
 use Rattle.rssd_script.specs.Script.{IsScript}
@@ -12,6 +13,7 @@ use Rattle.lab_lines.specs.declared.lines.LinesEnd.TheVariants as ends
 use Rattle.lab_lines.specs.Workload.{DrawPlan, drawn_lines}
 use Rattle.lab_stream.specs.Spelled.{EndsOnce, Streamed, StreamedBad, StreamedUpTo}
 use Rattle.lab_words.specs.declared.asked.Asked.{Asked}
+use Rattle.lab_words.specs.declared.asked.AskedDie.{AskedDie}
 use Rattle.lab_words.specs.declared.asked.LinesFrom.{LinesFrom}
 use Rattle.lab_words.specs.declared.asked.LinesFrom.TheVariants.{Stream, Drawn}
 use Rattle.lab_words.specs.Orders.{words_of, IsWithin}
@@ -22,6 +24,7 @@ use Rattle.rssd_lab.specs.declared.status.Status.{Status}
 use Rattle.rssd_lab.specs.declared.status.Status.TheVariants.{Done, BadWords, BadLine, ReadFault, WriteFault, OutOfMemory}
 use Rattle.rssd_lab.specs.declared.status.Stop.TheVariants as stops
 use Rattle.rssd_lab.specs.Top.{IsTold, bad_line}
+use Rattle.rssd_lab.specs.Dies.{IsBlankDevice}
 use Rattle.rssd_lab.specs.Listed.{PlaysList, StopsList}
 
 -- what the call was given and what it left
@@ -48,23 +51,23 @@ pub record AllCame (input : Input) (lines : List Line) : Type 0 where
   pub all : ((ahead ≡ []) × HasEnded input.after) ⊎ (length lines ≡ 2 ^ 64 - 1)
 
 -- all lines of the input were played and told
-pub record PlaysInput (telling : Telling) (head : ImageHead) (input : Input) (out : Output) : Type 0 where
+pub record PlaysInput (telling : Telling) (Start : DeviceValue → Type 0) (input : Input) (out : Output) : Type 0 where
   pub lines : List Line
   pub came : AllCame input lines
-  pub plays : PlaysList telling head lines out.before out.after
+  pub plays : PlaysList telling Start lines out.before out.after
 
 -- the line of this number is outside the grammar; those before it were played and told, and then `out` took the line that says so
-pub record IsOutside (telling : Telling) (head : ImageHead) (input : Input) (out : Output) : Type 0 where
+pub record IsOutside (telling : Telling) (Start : DeviceValue → Type 0) (input : Input) (out : Output) : Type 0 where
   pub lines : List Line
   pub number : ℕ
   pub bad : StreamedBad input.before input.after lines number
   pub between : List Event
-  pub plays : StopsList telling head (stops.Lines (ends.BadLine number)) lines out.before between
+  pub plays : StopsList telling Start (stops.Lines (ends.BadLine number)) lines out.before between
   pub line : GaveLine (record { before = between; after = out.after }) (bad_line number)
 
 -- the line of this number is in the grammar, and no device plays it; those before it were played and told, and then `out` took the
 -- line that says so
-pub record IsUnplayed (telling : Telling) (head : ImageHead) (input : Input) (out : Output) : Type 0 where
+pub record IsUnplayed (telling : Telling) (Start : DeviceValue → Type 0) (input : Input) (out : Output) : Type 0 where
   pub lines : List Line
   pub last : Line
   pub came : Came input (lines ++ last ∷ [])
@@ -72,36 +75,36 @@ pub record IsUnplayed (telling : Telling) (head : ImageHead) (input : Input) (ou
   pub number : ℕ
   pub number_is : number ≡ raised (length lines)
   pub between : List Event
-  pub plays : StopsList telling head (stops.NotPlayed number) (lines ++ last ∷ []) out.before between
+  pub plays : StopsList telling Start (stops.NotPlayed number) (lines ++ last ∷ []) out.before between
   pub line : GaveLine (record { before = between; after = out.after }) (bad_line number)
 
 -- the lines that came before a take failed were played and told
-pub record IsCutOff (telling : Telling) (head : ImageHead) (input : Input) (out : Output) : Type 0 where
+pub record IsCutOff (telling : Telling) (Start : DeviceValue → Type 0) (input : Input) (out : Output) : Type 0 where
   pub lines : List Line
   pub came : StreamedUpTo input.before input.after lines
-  pub plays : StopsList telling head (stops.Lines ends.Fault) lines out.before out.after
+  pub plays : StopsList telling Start (stops.Lines ends.Fault) lines out.before out.after
 
 -- there was no memory for a line; those before it were played and told
-pub record IsShortOfMemory (telling : Telling) (head : ImageHead) (input : Input) (out : Output) : Type 0 where
+pub record IsShortOfMemory (telling : Telling) (Start : DeviceValue → Type 0) (input : Input) (out : Output) : Type 0 where
   pub lines : List Line
   pub came : Came input lines
-  pub plays : StopsList telling head (stops.Lines ends.OutOfMemory) lines out.before out.after
+  pub plays : StopsList telling Start (stops.Lines ends.OutOfMemory) lines out.before out.after
 
 -- a call of `out` failed; the lines that came before were played, and told but for what failed
-pub record IsUntold (telling : Telling) (head : ImageHead) (input : Input) (out : Output) : Type 0 where
+pub record IsUntold (telling : Telling) (Start : DeviceValue → Type 0) (input : Input) (out : Output) : Type 0 where
   pub lines : List Line
   pub came : Came input lines
-  pub plays : StopsList telling head stops.Sink lines out.before out.after
+  pub plays : StopsList telling Start stops.Sink lines out.before out.after
   pub failed : WriteFailed out
 
 -- what each status says of the lines of the input
-abbrev pub SaysPlay : Telling → ImageHead → Input → Output → Status → Type 0
-SaysPlay telling head input out Done = PlaysInput telling head input out
-SaysPlay telling head input out BadLine = IsOutside telling head input out ⊎ IsUnplayed telling head input out
-SaysPlay telling head input out ReadFault = IsCutOff telling head input out
-SaysPlay telling head input out WriteFault = IsUntold telling head input out
-SaysPlay telling head input out OutOfMemory = (IsUntouched input × TookNothing out) ⊎ IsShortOfMemory telling head input out
-SaysPlay telling head input out BadWords = ⊥
+abbrev pub SaysPlay : Telling → (DeviceValue → Type 0) → Input → Output → Status → Type 0
+SaysPlay telling Start input out Done = PlaysInput telling Start input out
+SaysPlay telling Start input out BadLine = IsOutside telling Start input out ⊎ IsUnplayed telling Start input out
+SaysPlay telling Start input out ReadFault = IsCutOff telling Start input out
+SaysPlay telling Start input out WriteFault = IsUntold telling Start input out
+SaysPlay telling Start input out OutOfMemory = (IsUntouched input × TookNothing out) ⊎ IsShortOfMemory telling Start input out
+SaysPlay telling Start input out BadWords = ⊥
 
 -- ---- `draw`
 
@@ -110,37 +113,37 @@ abbrev pub plan_for : ImageHead → Kind → ℕ → DrawPlan
 plan_for head kind idle = record { kind = kind; sectors = head.sectors; sector_bytes = (row_of head.scheme).sector_bytes; idle = idle }
 
 -- there was no memory for a line; the first lines of the workload were played and told
-pub record IsShortOfDrawn (telling : Telling) (head : ImageHead) (plan : DrawPlan) (seed count : ℕ) (out : Output) : Type 0 where
+pub record IsShortOfDrawn (telling : Telling) (Start : DeviceValue → Type 0) (plan : DrawPlan) (seed count : ℕ) (out : Output) : Type 0 where
   pub k : ℕ
   pub before : k ≤ count
-  pub plays : StopsList telling head (stops.Lines ends.OutOfMemory) (drawn_lines plan k seed) out.before out.after
+  pub plays : StopsList telling Start (stops.Lines ends.OutOfMemory) (drawn_lines plan k seed) out.before out.after
 
 -- a call of `out` failed; the first lines of the workload were played, and told but for what failed
-pub record IsUntoldDrawn (telling : Telling) (head : ImageHead) (plan : DrawPlan) (seed count : ℕ) (out : Output) : Type 0 where
+pub record IsUntoldDrawn (telling : Telling) (Start : DeviceValue → Type 0) (plan : DrawPlan) (seed count : ℕ) (out : Output) : Type 0 where
   pub k : ℕ
   pub before : k ≤ count
-  pub plays : StopsList telling head stops.Sink (drawn_lines plan k seed) out.before out.after
+  pub plays : StopsList telling Start stops.Sink (drawn_lines plan k seed) out.before out.after
   pub failed : WriteFailed out
 
 -- what each status says of so many lines of the workload of a seed; each of them is played
-abbrev pub SaysDraw : Telling → ImageHead → DrawPlan → ℕ → ℕ → Output → Status → Type 0
-SaysDraw telling head plan seed count out Done = PlaysList telling head (drawn_lines plan count seed) out.before out.after
-SaysDraw telling head plan seed count out WriteFault = IsUntoldDrawn telling head plan seed count out
-SaysDraw telling head plan seed count out OutOfMemory = TookNothing out ⊎ IsShortOfDrawn telling head plan seed count out
-SaysDraw telling head plan seed count out status = ⊥
+abbrev pub SaysDraw : Telling → (DeviceValue → Type 0) → DrawPlan → ℕ → ℕ → Output → Status → Type 0
+SaysDraw telling Start plan seed count out Done = PlaysList telling Start (drawn_lines plan count seed) out.before out.after
+SaysDraw telling Start plan seed count out WriteFault = IsUntoldDrawn telling Start plan seed count out
+SaysDraw telling Start plan seed count out OutOfMemory = TookNothing out ⊎ IsShortOfDrawn telling Start plan seed count out
+SaysDraw telling Start plan seed count out status = ⊥
 
 -- ---- all orders
 
 -- what a status says, by where the lines come from; where they are drawn the input was not called
-abbrev pub SaysFrom : LinesFrom → Telling → ImageHead → Input → Output → Status → Type 0
-SaysFrom Stream telling head input out status = SaysPlay telling head input out status
-SaysFrom (Drawn kind seed count idle) telling head input out status = SaysDraw telling head (plan_for head kind idle) seed count out status × IsUntouched input
+abbrev pub SaysFrom : LinesFrom → Telling → AskedDie → Input → Output → Status → Type 0
+SaysFrom Stream telling die input out status = SaysPlay telling (IsBlankDevice die) input out status
+SaysFrom (Drawn kind seed count idle) telling die input out status = SaysDraw telling (IsBlankDevice die) (plan_for die.head kind idle) seed count out status × IsUntouched input
 
 -- what a status says where the words spell this order
 pub record SaysOf (asked : Asked) (input : Input) (out : Output) (status : Status) : Type 0 where
   pub telling : Telling
   pub told : IsTold asked telling
-  pub says : SaysFrom asked.from telling asked.head input out status
+  pub says : SaysFrom asked.from telling asked.die input out status
 
 -- what was taken of the input is a script, behind whose end no byte came, and each line of it is played
 pub record HasPlayed (input : Input) : Type 0 where

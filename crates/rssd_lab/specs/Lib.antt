@@ -1,7 +1,8 @@
 pub mod Chain
 pub mod Pacing
 pub mod Runs
-pub mod Blank
+pub mod Started
+pub mod Dies
 pub mod Top
 pub mod Listed
 pub mod Ends

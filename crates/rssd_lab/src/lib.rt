@@ -2,6 +2,7 @@
 //! No list of the lines is held, so its memory does not grow with their number.
 #![tactic(auto)]
 
+mod blank;
 mod laboratory;
 mod on_die;
 mod pace;
@@ -10,8 +11,9 @@ mod status;
 mod telling;
 mod top;
 
+pub use blank::{Blank, pair, plain, worn};
 pub use laboratory::run;
-pub use on_die::run_on;
+pub use on_die::{run_asked, run_on};
 pub use pace::{Pace, Paced};
 pub use score::Score;
 pub use status::{Outcome, Status, Stop};

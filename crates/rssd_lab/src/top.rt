@@ -3,14 +3,15 @@ ghost use Rattle.std.specs.Prelude.{◌≡◌, ◌≤◌, ◌<◌, ◌^◌, ◌+
 ghost use Rattle.die_image.specs.Image.{is_within_limits};
 ghost use Rattle.die_image.specs.Schemes.{row_of};
 ghost use Rattle.lab_lines.specs.Drawing.{plan_of as drawn_for, state_of, left_of};
-ghost use Rattle.lab_words.specs.Orders.{IsWithin};
+ghost use Rattle.lab_words.specs.Orders.{IsWithin, IsDieWithin};
 ghost use Rattle.rssd_run.specs.Statuses.{input as taken_of, output as given_to};
 ghost use Rattle.rssd_lab.specs.declared.status.Status.{Status as How};
 ghost use Rattle.rssd_lab.specs.Top.{bad_line, number_of, GivesLine, SaysEnd, SaysStopped, IsTold};
+ghost use Rattle.rssd_lab.specs.Dies.{IsBlankDevice};
 ghost use Rattle.rssd_lab.specs.Listed.{RunEnds};
 ghost use Rattle.rssd_lab.specs.Ends.{Call, Says, SaysOf, SaysPlay, SaysDraw};
 
-use crate::on_die::run_on;
+use crate::on_die::run_asked;
 use crate::pace::{Pace, Paced};
 use crate::status::{Outcome, Status, Stop};
 use crate::telling::Telling;
@@ -19,7 +20,7 @@ use die_image::ImageHead;
 use itoa::Buffer;
 use lab_lines::{Drawn, Kind, Lines, LinesEnd, Plan};
 use lab_stream::Stream;
-use lab_words::{Asked, LinesFrom, Voice, read_words};
+use lab_words::{Asked, AskedDie, LinesFrom, Voice, read_words};
 use rssd_io::{Sink, Source, give_last};
 use std::alloc::Global;
 
@@ -95,18 +96,18 @@ fn telling_of(asked: &Asked) -> Telling
     }
 }
 
-/// Plays lines on a blank die of a head.
+/// Plays lines on a blank die.
 fn play_lines<L: Lines, O: Sink>(
     alloc: Global,
-    head: &ImageHead,
+    die: &AskedDie,
     telling: Telling,
     lines: &mut L,
     out: &mut O,
 ) -> Status
-    requires { is_within_limits head.now ≡ true }
-    ensures { RunEnds L.gives L.ended L.stops telling head.now lines.old lines.new (O.log out.old) (O.log out.new) result }
+    requires { IsDieWithin die.now }
+    ensures { RunEnds L.gives L.ended L.stops telling (IsBlankDevice die.now) lines.old lines.new (O.log out.old) (O.log out.new) result }
 {
-    match run_on(alloc, head, telling, lines, out) {
+    match run_asked(alloc, die, telling, lines, out) {
         Ok(()) => Status::Done,
         Err(why) => stopped(why, out),
     }
@@ -115,19 +116,19 @@ fn play_lines<L: Lines, O: Sink>(
 /// Plays the lines of the input, which comes back.
 fn play_input<I: Source + Drop, O: Sink, P: Pace>(
     alloc: Global,
-    head: &ImageHead,
+    die: &AskedDie,
     telling: Telling,
     input: I,
     out: &mut O,
     pace: Option<P>,
 ) -> (Status, I)
-    requires { is_within_limits head.now ≡ true }
-    ensures { SaysPlay telling head.now (taken_of (I.log input) (I.log result.1)) (given_to (O.log out.old) (O.log out.new)) result.0 }
+    requires { IsDieWithin die.now }
+    ensures { SaysPlay telling (IsBlankDevice die.now) (taken_of (I.log input) (I.log result.1)) (given_to (O.log out.old) (O.log out.new)) result.0 }
 {
     match Stream::new(alloc, input) {
         Ok(stream) => {
             let mut lines = Paced::new(stream, pace);
-            let status = play_lines(alloc, head, telling, &mut lines, out);
+            let status = play_lines(alloc, die, telling, &mut lines, out);
             (status, lines.into_inner().into_source())
         }
         Err(input) => (Status::OutOfMemory, input),
@@ -137,18 +138,18 @@ fn play_input<I: Source + Drop, O: Sink, P: Pace>(
 /// Plays lines that are drawn.
 fn play_drawn<O: Sink, P: Pace>(
     alloc: Global,
-    head: &ImageHead,
+    die: &AskedDie,
     telling: Telling,
     drawn: Drawn,
     out: &mut O,
     pace: Option<P>,
 ) -> Status
-    requires { is_within_limits head.now ≡ true }
+    requires { IsDieWithin die.now }
     ensures { (seed : ℕ) → state_of drawn ≡ record { words = seed; turn = 0 } → left_of drawn < 2 ^ 64
-        → SaysDraw telling head.now (drawn_for drawn) seed (left_of drawn) (given_to (O.log out.old) (O.log out.new)) result }
+        → SaysDraw telling (IsBlankDevice die.now) (drawn_for drawn) seed (left_of drawn) (given_to (O.log out.old) (O.log out.new)) result }
 {
     let mut lines = Paced::new(drawn, pace);
-    play_lines(alloc, head, telling, &mut lines, out)
+    play_lines(alloc, die, telling, &mut lines, out)
 }
 
 /// What lines are drawn for: this kind of workload on a head's device.
@@ -180,15 +181,15 @@ fn answer_order<I: Source + Drop, O: Sink, P: Pace>(
 {
     let telling = telling_of(asked);
     match asked.from {
-        LinesFrom::Stream => play_input(alloc, &asked.head, telling, input, out, pace),
+        LinesFrom::Stream => play_input(alloc, &asked.die, telling, input, out, pace),
         LinesFrom::Drawn {
             kind,
             seed,
             count,
             idle,
-        } => match Drawn::new(alloc, plan_of(&asked.head, kind, idle), seed, count) {
+        } => match Drawn::new(alloc, plan_of(&asked.die.head, kind, idle), seed, count) {
             Ok(drawn) => {
-                let status = play_drawn(alloc, &asked.head, telling, drawn, out, pace);
+                let status = play_drawn(alloc, &asked.die, telling, drawn, out, pace);
                 (status, input)
             }
             Err(_) => (Status::OutOfMemory, input),
@@ -226,8 +227,11 @@ fn answer<I: Source + Drop, O: Sink, P: Pace>(
 
 /// Answers words. They do not include the program's name.
 ///
-/// - `play VOICE EVERY SCHEME BLOCKS PAGES SECTORS REUSE` plays the lines of `input`, each as it comes, on a blank die.
-/// - `draw VOICE KIND SEED COUNT IDLE EVERY SCHEME BLOCKS PAGES SECTORS REUSE` plays lines that are drawn.
+/// - `play VOICE EVERY DIE` plays the lines of `input`, each as it comes, on a blank die.
+/// - `draw VOICE KIND SEED COUNT IDLE EVERY DIE` plays lines that are drawn.
+///
+/// DIE is HEAD, which is SCHEME BLOCKS PAGES SECTORS REUSE; or `worn HEAD RESERVE BAD`, for a die with so many reserve blocks each
+/// BAD-th erase of which makes its block bad; or `pair HEAD`, for two dies as one.
 ///
 /// A row of what was counted is given after each EVERY lines, and each reply before it where VOICE is `loud`; at the end a last row
 /// and two tables. `pace` is told how many lines have come where VOICE is `progress`.

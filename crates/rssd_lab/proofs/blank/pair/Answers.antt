@@ -1,0 +1,17 @@
+-- Two blank dies as one are a blank die, and no mount of it fails.
+use Rattle.cell_die.specs.DieState.{DieState}
+use Rattle.mem_die.specs.MemState.{mem_state}
+use Rattle.stripe_die.specs.Pair.{pair_state}
+use Rattle.rssd_run.specs.Heads.{numbers_named}
+use Rattle.rssd_run.proofs.PairPlays.{pair_blank, pair_mounts}
+use Rattle.rssd_lab.proofs.blank.pair.Goals as goal
+
+pub invariant_of-result-clause-blank : goal.invariant_of-result-clause-blank
+invariant_of-result-clause-blank c =
+    let die : DieState = pair_state (mem_state c.in_ok-die.die.a) (mem_state c.in_ok-die.die.b) in
+    pair_blank c.args.head die c.requires.even c.in_ok-die.ensures
+
+pub invariant_of-result-clause-mounts : goal.invariant_of-result-clause-mounts
+invariant_of-result-clause-mounts c = λ new fails.
+    let die : DieState = pair_state (mem_state c.in_ok-die.die.a) (mem_state c.in_ok-die.die.b) in
+    pair_mounts c.args.head die c.requires.even c.in_ok-die.ensures (numbers_named c.args.head) _ fails
