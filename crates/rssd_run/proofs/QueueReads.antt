@@ -13,11 +13,11 @@ use Rattle.rssd_queue.specs.declared.ask.Ask.TheVariants as asks
 use Rattle.rssd_queue.specs.declared.ask.Tagged.{Tagged}
 use Rattle.rssd_queue.specs.declared.serve.Answer.{Answer}
 use Rattle.rssd_queue.specs.declared.serve.Answer.TheVariants.{Wrote, Bytes as Row, Trimmed}
-use Rattle.rssd_queue.specs.Asks.{sector_of, is_long, filled}
+use Rattle.rssd_queue.specs.Asks.{sector_of, is_long}
 use Rattle.rssd_queue.specs.Waiting.{Waiting, Accepts, IsAsked, IsWhole, accepted, command_at, no_command}
 use Rattle.rssd_queue.specs.Pick.{Takes}
 use Rattle.rssd_queue.specs.Runs as queue_runs
-use Rattle.rssd_queue.proofs.Fields.{filled_whole, sector-filled}
+use Rattle.rssd_queue.proofs.Fields.{accepted_fits}
 use Rattle.rssd_queue.proofs.Rows.{reads_in_order}
 use Rattle.rssd_script.specs.declared.lines.Line.{Line}
 use Rattle.rssd_script.specs.declared.lines.Line.TheVariants.{Write, Read, Trim, Idle, Cut, FailRead, Mount, Stat}
@@ -224,12 +224,13 @@ asked_put d old new c sectors bytes asked a k within =
       | inr last ↦ (
           let here : k ≡ length old.commands = omega (arith, last, within, long) in
           let first : k - length old.commands ≡ 0 = omega (arith, here) in
+          let fits = accepted_fits size old.sectors c (accepted size c) refl a.in_range a.fits in
           let is : command_at new.commands k ≡ accepted size c
           = ap (λ (cs : List Tagged). command_at cs k) commands
           ∙ (get_or-append_right old.commands (accepted size c ∷ []) (length old.commands) k no_command refl last ∙ ap (λ (i : ℕ). get_or (accepted size c ∷ []) i no_command) first) in
           subst (λ (t : Tagged). IsAsked d.geometry.sectors d.geometry.sector_bytes t.ask) (sym is) (record {
-            in_range = let same = sector-filled size c.ask in let low = a.in_range in omega (arith, same, low, sectors);
-            whole = subst (λ (n : ℕ). IsWhole n (filled size c.ask)) bytes (filled_whole size c.ask a.fits);
+            in_range = subst (λ (n : ℕ). sector_of (accepted size c).ask < n) sectors fits.0;
+            whole = subst (λ (n : ℕ). IsWhole n (accepted size c).ask) bytes fits.1;
           }))
     ]
 
