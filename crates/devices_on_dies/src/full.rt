@@ -9,7 +9,7 @@
 use crate::schemes::{cosets, flips, pairs, plains, sevens};
 use crate::start::{mounted, started};
 use mem_die::MemDie;
-use rssd_core::{Counts, Device, Ftl, Plan};
+use rssd_core::{Counts, Device, Ftl, Plan, PowerDevice};
 use std::alloc::Global;
 use std::process::Abort;
 use std::test::Fail;

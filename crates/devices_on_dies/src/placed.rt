@@ -6,7 +6,7 @@ use crate::schemes::{cosets, pairs, plains, sevens};
 use crate::start::started;
 use cell_die::Die;
 use mem_die::MemDie;
-use rssd_core::{Counts, Device, Ftl, FtlError, Placed, Plan};
+use rssd_core::{Counts, Device, Ftl, FtlError, Placed, Plan, PowerDevice};
 use std::process::Abort;
 use std::test::Fail;
 use striped::Scheme;
