@@ -1,12 +1,12 @@
-//! The program of the laboratory: its words, standard input and output go to one call, and the status that it answers is the
-//! program's. How far a run has come is told on standard error, about once a second.
+//! The program of the laboratory: its words, standard input and output, and the files `die.img` and `die.new` of the current folder go
+//! to one call, and the status that it answers is the program's. How far a run has come is told on standard error, about once a second.
 #![tactic(auto)]
 
 mod clock;
 
 use clock::Clocked;
-use rssd_io::{BufSink, StdSink, StdSource};
-use rssd_lab::lab;
+use rssd_io::{BufSink, FileSink, FileSource, StdSink, StdSource};
+use rssd_lab::{Sources, lab};
 use std::process::ExitCode;
 use std::{env, io};
 
@@ -23,9 +23,13 @@ fn main(rt: HostRuntime) -> ExitCode {
     let Ok(words) = words(&rt) else {
         return ExitCode::from(7);
     };
-    let input = StdSource::new(rt.stdin());
+    let from = Sources {
+        lines: StdSource::new(rt.stdin()),
+        image: FileSource::new(&rt, "die.img"),
+    };
     let mut out = BufSink::new(StdSink::new(rt.stdout()));
+    let mut image_out = FileSink::new(&rt, "die.new");
     let pace = Clocked::new(&rt, &words);
-    let outcome = lab(rt.alloc(), &words, input, &mut out, pace);
+    let outcome = lab(rt.alloc(), &words, from, &mut out, &mut image_out, pace);
     ExitCode::from(outcome.status)
 }

@@ -7,11 +7,12 @@ use Rattle.rssd_words.specs.declared.command.Command.TheVariants as commands
 use Rattle.rssd_words.specs.Commands.{head_words, words_of as command_words}
 use Rattle.lab_lines.specs.declared.kind.Kind.{Kind}
 use Rattle.lab_words.specs.declared.asked.Asked.{Asked}
+use Rattle.lab_words.specs.declared.asked.AskedDie.{AskedDie}
 use Rattle.lab_words.specs.declared.asked.DieKind.{DieKind}
 use Rattle.lab_words.specs.declared.asked.DieKind.TheVariants.{Plain, Worn, Pair}
 use Rattle.lab_words.specs.declared.asked.LinesFrom.{LinesFrom}
 use Rattle.lab_words.specs.declared.asked.LinesFrom.TheVariants.{Stream, Drawn}
-use Rattle.lab_words.specs.Orders.{kind_word, voice_word, words_of, words_with, die_words, command_on, spelled_front}
+use Rattle.lab_words.specs.Orders.{kind_word, voice_word, words_of, words_with, die_words, from_words, command_on, spelled_front}
 
 -- what holds of a found value holds of the one that was found
 pub at_some : {A : Type 0} (o : Option A) (x : A) (P : A → Type 0) → o ≡ Some x → IfSome o P → P x
@@ -52,6 +53,17 @@ command_spelled head Plain other = absurd (other refl)
 command_spelled head (Worn reserve bad) other = refl
 command_spelled head Pair other = refl
 
+many_words : (head : ImageHead) (kind : DieKind) → 5 ≤ length (words_with head kind)
+unfolding command_words
+many_words head Plain = omega arith
+many_words head (Worn reserve bad) = omega arith
+many_words head Pair = omega arith
+
+-- no blank die has the one word of `run`
+pub run_is_not_blank : (words : List (List ℕ)) (die : AskedDie) → words ≡ command_words commands.Run → words ≡ die_words die → ⊥
+unfolding command_words
+run_is_not_blank words die run blank = omega (arith, ap length run, ap length blank, many_words die.head die.kind)
+
 -- ---- orders
 
 first_word : {n m : List ℕ} {ns ms : List (List ℕ)} → n ∷ ns ≡ m ∷ ms → n ≡ m
@@ -67,10 +79,10 @@ pub record IsPlay (v e : List ℕ) (die : List (List ℕ)) (asked : Asked) : Typ
   pub from : asked.from ≡ Stream
   pub voice : v ≡ voice_word asked.voice
   pub every : e ≡ decimal asked.every
-  pub die_is : die ≡ die_words asked.die
+  pub die_is : die ≡ from_words asked.die
 
 play_parts : (v e : List ℕ) (die : List (List ℕ)) (asked : Asked) (from : LinesFrom) → asked.from ≡ from
-    → codes "play" ∷ v ∷ e ∷ die ≡ spelled_front from (voice_word asked.voice) (decimal asked.every) (die_words asked.die) → IsPlay v e die asked
+    → codes "play" ∷ v ∷ e ∷ die ≡ spelled_front from (voice_word asked.voice) (decimal asked.every) (from_words asked.die) → IsPlay v e die asked
 play_parts v e die asked Stream from spelled = record { from = from; voice = cc; every = cc; die_is = cc }
 play_parts v e die asked (Drawn kind seed count idle) from spelled = absurd (play_is_not_draw (first_word spelled))
 
@@ -80,7 +92,7 @@ play_is v e die asked spelled = play_parts v e die asked asked.from refl spelled
 pub play_spelled : (v e : List ℕ) (die : List (List ℕ)) (asked : Asked) → IsPlay v e die asked → codes "play" ∷ v ∷ e ∷ die ≡ words_of asked
 play_spelled v e die asked is =
     (λ j. codes "play" ∷ is.voice j ∷ is.every j ∷ is.die_is j)
-    ∙ ap (λ (from : LinesFrom). spelled_front from (voice_word asked.voice) (decimal asked.every) (die_words asked.die)) (sym is.from)
+    ∙ ap (λ (from : LinesFrom). spelled_front from (voice_word asked.voice) (decimal asked.every) (from_words asked.die)) (sym is.from)
 
 -- the words behind `draw`
 pub record IsDraw (v k s t i e : List ℕ) (die : List (List ℕ)) (asked : Asked) : Type 0 where
@@ -95,10 +107,10 @@ pub record IsDraw (v k s t i e : List ℕ) (die : List (List ℕ)) (asked : Aske
   pub count_is : t ≡ decimal count
   pub idle_is : i ≡ decimal idle
   pub every : e ≡ decimal asked.every
-  pub die_is : die ≡ die_words asked.die
+  pub die_is : die ≡ from_words asked.die
 
 draw_parts : (v k s t i e : List ℕ) (die : List (List ℕ)) (asked : Asked) (from : LinesFrom) → asked.from ≡ from
-    → codes "draw" ∷ v ∷ k ∷ s ∷ t ∷ i ∷ e ∷ die ≡ spelled_front from (voice_word asked.voice) (decimal asked.every) (die_words asked.die)
+    → codes "draw" ∷ v ∷ k ∷ s ∷ t ∷ i ∷ e ∷ die ≡ spelled_front from (voice_word asked.voice) (decimal asked.every) (from_words asked.die)
     → IsDraw v k s t i e die asked
 draw_parts v k s t i e die asked Stream from spelled = absurd (play_is_not_draw (sym (first_word spelled)))
 draw_parts v k s t i e die asked (Drawn kind seed count idle) from spelled = record {
@@ -125,7 +137,7 @@ few_of words (Drawn kind seed count idle) v e die is = omega (arith, ap length i
 
 -- an order has three words at least
 pub three_words : (words : List (List ℕ)) (asked : Asked) → words ≡ words_of asked → 3 ≤ length words
-three_words words asked is = few_of words asked.from (voice_word asked.voice) (decimal asked.every) (die_words asked.die) is
+three_words words asked is = few_of words asked.from (voice_word asked.voice) (decimal asked.every) (from_words asked.die) is
 
 drawn_few : (words : List (List ℕ)) (from : LinesFrom) (v e : List ℕ) (die : List (List ℕ)) → codes "draw" ∷ words ≡ spelled_front from v e die → 6 ≤ length words
 drawn_few words Stream v e die is = absurd (play_is_not_draw (sym (first_word is)))
@@ -133,7 +145,7 @@ drawn_few words (Drawn kind seed count idle) v e die is = omega (arith, ap lengt
 
 -- one for drawn lines has six behind `draw`
 pub six_words : (words : List (List ℕ)) (asked : Asked) → codes "draw" ∷ words ≡ words_of asked → 6 ≤ length words
-six_words words asked is = drawn_few words asked.from (voice_word asked.voice) (decimal asked.every) (die_words asked.die) is
+six_words words asked is = drawn_few words asked.from (voice_word asked.voice) (decimal asked.every) (from_words asked.die) is
 
 begins_from : (n : List ℕ) (behind : List (List ℕ)) (from : LinesFrom) (v e : List ℕ) (die : List (List ℕ)) → n ∷ behind ≡ spelled_front from v e die → (n ≡ codes "play") ⊎ (n ≡ codes "draw")
 begins_from n behind Stream v e die is = inl (first_word is)
@@ -141,7 +153,7 @@ begins_from n behind (Drawn kind seed count idle) v e die is = inr (first_word i
 
 -- an order begins with one of two words
 pub begins : (n : List ℕ) (behind : List (List ℕ)) (asked : Asked) → n ∷ behind ≡ words_of asked → (n ≡ codes "play") ⊎ (n ≡ codes "draw")
-begins n behind asked is = begins_from n behind asked.from (voice_word asked.voice) (decimal asked.every) (die_words asked.die) is
+begins n behind asked is = begins_from n behind asked.from (voice_word asked.voice) (decimal asked.every) (from_words asked.die) is
 
 -- ---- lists, item by item
 

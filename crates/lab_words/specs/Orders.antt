@@ -8,6 +8,8 @@ use Rattle.lab_lines.specs.declared.kind.Kind.{Kind}
 use Rattle.lab_lines.specs.declared.kind.Kind.TheVariants.{Uniform, Hot, Zipf, Sequential, Mixed}
 use Rattle.lab_words.specs.declared.asked.Asked.{Asked}
 use Rattle.lab_words.specs.declared.asked.AskedDie.{AskedDie}
+use Rattle.lab_words.specs.declared.asked.DieFrom.{DieFrom}
+use Rattle.lab_words.specs.declared.asked.DieFrom.TheVariants.{Blank, Image}
 use Rattle.lab_words.specs.declared.asked.DieKind.{DieKind}
 use Rattle.lab_words.specs.declared.asked.DieKind.TheVariants.{Plain, Worn, Pair}
 use Rattle.lab_words.specs.declared.asked.LinesFrom.{LinesFrom}
@@ -48,6 +50,16 @@ die_words die = words_with die.head die.kind
 abbrev pub IsDieWithin : AskedDie → Type 0
 IsDieWithin die = IsCommandWithin (command_on die.head die.kind)
 
+-- the words of the die: of a blank one its own, of that of an image those of the command `run`
+abbrev pub from_words : DieFrom → List (List ℕ)
+from_words (Blank die) = die_words die
+from_words Image = command_words commands.Run
+
+-- the numbers of a blank die are within limits
+abbrev pub IsFromWithin : DieFrom → Type 0
+IsFromWithin (Blank die) = IsDieWithin die
+IsFromWithin Image = Unit {0}
+
 -- the words of where the lines come from, with the words of a voice and of a number among them, and others behind
 abbrev pub spelled_front : LinesFrom → List ℕ → List ℕ → List (List ℕ) → List (List ℕ)
 spelled_front Stream voice every rest = codes "play" ∷ voice ∷ every ∷ rest
@@ -55,7 +67,7 @@ spelled_front (Drawn kind seed count idle) voice every rest = codes "draw" ∷ v
 
 -- the one spelling of an order
 abbrev pub words_of : Asked → List (List ℕ)
-words_of asked = spelled_front asked.from (voice_word asked.voice) (decimal asked.every) (die_words asked.die)
+words_of asked = spelled_front asked.from (voice_word asked.voice) (decimal asked.every) (from_words asked.die)
 
 -- the numbers of drawn lines are within limits
 abbrev pub IsDrawnWithin : LinesFrom → Type 0
@@ -67,4 +79,4 @@ pub record IsWithin (asked : Asked) : Type 0 where
   pub from : IsDrawnWithin asked.from
   pub some : 1 ≤ asked.every
   pub every : asked.every < 2 ^ 64
-  pub die : IsDieWithin asked.die
+  pub die : IsFromWithin asked.die

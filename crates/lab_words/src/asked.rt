@@ -44,11 +44,20 @@ pub struct AskedDie {
     pub kind: DieKind,
 }
 
-/// What is asked of a laboratory: lines, a row after each `every` of them, and a device.
+/// On which die the lines are played.
+#[derive(Clone, Copy, Debug, PartialEq, Eq)]
+pub enum DieFrom {
+    /// A blank one, in memory.
+    Blank(AskedDie),
+    /// The die of an image, as the command `run` of `rssd` takes it.
+    Image,
+}
+
+/// What is asked of a laboratory: lines, a row after each `every` of them, and a die.
 #[derive(Clone, Copy, Debug, PartialEq, Eq)]
 pub struct Asked {
     pub from: LinesFrom,
     pub voice: Voice,
     pub every: u64,
-    pub die: AskedDie,
+    pub die: DieFrom,
 }

@@ -5,7 +5,7 @@ mod asked;
 mod numbers;
 mod reading;
 
-pub use asked::{Asked, AskedDie, DieKind, LinesFrom, Voice};
+pub use asked::{Asked, AskedDie, DieFrom, DieKind, LinesFrom, Voice};
 pub use reading::read_words;
 
 #[cfg(test)]

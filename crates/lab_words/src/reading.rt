@@ -1,16 +1,18 @@
 //! What the words ask for.
-ghost use Rattle.std.specs.Prelude.{◌≡◌, ◌≢◌, ℕ, List, true, [], ◌∷◌, ◌≤◌, ◌<◌, ◌^◌, map, IfSome, Some, codes, string_bytes, decimal};
+ghost use Rattle.std.specs.Prelude.{◌≡◌, ◌≢◌, ℕ, List, true, [], ◌∷◌, ◌↔◌, ◌≤◌, ◌<◌, ◌^◌, map, IfSome, Some, codes, string_bytes, decimal};
 ghost use Rattle.die_image.specs.declared.head.ImageHead.{ImageHead as Head};
 ghost use Rattle.die_image.specs.Image.{is_within_limits};
-ghost use Rattle.rssd_words.specs.Commands.{head_words};
+ghost use Rattle.rssd_words.specs.declared.command.Command.{Command as Ordered};
+ghost use Rattle.rssd_words.specs.Commands.{head_words, words_of as command_words};
 ghost use Rattle.lab_lines.specs.declared.kind.Kind.{Kind as Chosen};
 ghost use Rattle.lab_words.specs.declared.asked.Asked.{Asked as Order};
 ghost use Rattle.lab_words.specs.declared.asked.AskedDie.{AskedDie as Wanted};
+ghost use Rattle.lab_words.specs.declared.asked.DieFrom.{DieFrom as Place};
 ghost use Rattle.lab_words.specs.declared.asked.Voice.{Voice as Told};
-ghost use Rattle.lab_words.specs.Orders.{kind_word, voice_word, words_of, die_words, command_on, spelled_front, IsDrawnWithin, IsDieWithin, IsWithin};
+ghost use Rattle.lab_words.specs.Orders.{kind_word, voice_word, words_of, die_words, command_on, spelled_front, IsDrawnWithin, IsDieWithin, IsFromWithin, IsWithin, from_words};
 
 use crate::numbers::{read_number, read_small};
-use crate::{Asked, AskedDie, DieKind, LinesFrom, Voice};
+use crate::{Asked, AskedDie, DieFrom, DieKind, LinesFrom, Voice};
 use die_image::{ImageHead, SchemeName, within_limits};
 use lab_lines::Kind;
 use rssd_words::{Command, read_words as read_command};
@@ -78,14 +80,36 @@ fn read_plain(words: &[String]) -> Option<AskedDie>
     }
 }
 
-/// The die that the words spell: the words of its head, or those of the command `worn` or `pair` of `rssd`.
-fn read_die(words: &[String]) -> Option<AskedDie>
+/// The blank die that the words spell: the words of its head, or those of the command `worn` or `pair` of `rssd`.
+fn read_blank(words: &[String]) -> Option<AskedDie>
     ensures found { IfSome result (λ die. IsDieWithin die × (map string_bytes words.now ≡ die_words die)) }
     ensures only { (die : Wanted) → IsDieWithin die → map string_bytes words.now ≡ die_words die → result ≡ Some die }
 {
     match read_plain(words) {
         Some(die) => Some(die),
         None => of_command(read_command(words)),
+    }
+}
+
+/// Whether the words are those of the command `run` of `rssd`.
+fn is_run(words: &[String]) -> bool
+    ensures { result ≡ true ↔ map string_bytes words.now ≡ command_words Ordered.Run }
+{
+    matches!(read_command(words), Some(Command::Run))
+}
+
+/// The die that the words spell: that of an image, or a blank one.
+fn read_die(words: &[String]) -> Option<DieFrom>
+    ensures found { IfSome result (λ die. IsFromWithin die × (map string_bytes words.now ≡ from_words die)) }
+    ensures only { (die : Place) → IsFromWithin die → map string_bytes words.now ≡ from_words die → result ≡ Some die }
+{
+    if is_run(words) {
+        Some(DieFrom::Image)
+    } else {
+        match read_blank(words) {
+            Some(die) => Some(DieFrom::Blank(die)),
+            None => None,
+        }
     }
 }
 
@@ -153,9 +177,9 @@ fn read_numbers(kind: &str, seed: &str, count: &str, idle: &str) -> Option<Lines
 }
 
 /// An order for these lines, with a voice and a number, and a die.
-fn order(from: Option<LinesFrom>, voice: &str, every: &str, die: Option<AskedDie>) -> Option<Asked>
+fn order(from: Option<LinesFrom>, voice: &str, every: &str, die: Option<DieFrom>) -> Option<Asked>
     requires from { IfSome from (λ f. IsDrawnWithin f) }
-    requires die { IfSome die (λ d. IsDieWithin d) }
+    requires die { IfSome die (λ d. IsFromWithin d) }
     ensures within { IfSome result (λ asked. IsWithin asked) }
     ensures from { IfSome result (λ asked. from ≡ Some asked.from) }
     ensures voice { IfSome result (λ asked. voice.now ≡ voice_word asked.voice) }
@@ -202,7 +226,7 @@ fn read_draw(words: &[String]) -> Option<Asked>
 }
 
 /// What the words ask for: `play VOICE EVERY DIE`, or `draw VOICE KIND SEED COUNT IDLE EVERY DIE`, where DIE is HEAD,
-/// `worn HEAD RESERVE BAD` or `pair HEAD`, and HEAD is SCHEME BLOCKS PAGES SECTORS REUSE.
+/// `worn HEAD RESERVE BAD`, `pair HEAD` or `run`, and HEAD is SCHEME BLOCKS PAGES SECTORS REUSE.
 pub fn read_words(words: &[String]) -> Option<Asked>
     ensures found { IfSome result (λ asked. IsWithin asked × (map string_bytes words.now ≡ words_of asked)) }
     ensures only { (asked : Order) → IsWithin asked → map string_bytes words.now ≡ words_of asked → result ≡ Some asked }

@@ -23,10 +23,7 @@ fn read(alloc: Global, line: &str) -> Result<Option<Asked>, Fail> {
 
 #[test]
 fn both_orders_are_read(rt: HostRuntime) -> Result<(), Fail> {
-    let die = AskedDie {
-        head: HEAD,
-        kind: DieKind::Plain,
-    };
+    let die = blank(DieKind::Plain);
     let played = Asked {
         from: LinesFrom::Stream,
         voice: Voice::Loud,
@@ -55,22 +52,28 @@ fn both_orders_are_read(rt: HostRuntime) -> Result<(), Fail> {
     Ok(())
 }
 
+/// A blank die of this kind.
+fn blank(kind: DieKind) -> DieFrom {
+    DieFrom::Blank(AskedDie { head: HEAD, kind })
+}
+
 #[test]
 fn each_kind_of_die_is_read(rt: HostRuntime) -> Result<(), Fail> {
     let worn = DieKind::Worn {
         reserve: 2,
         bad: u32::MAX,
     };
-    for (line, kind) in [
-        ("play quiet 1 rs16 2 2 1 0", DieKind::Plain),
-        ("play quiet 1 worn rs16 2 2 1 0 2 4294967295", worn),
-        ("play quiet 1 pair rs16 2 2 1 0", DieKind::Pair),
+    for (line, die) in [
+        ("play quiet 1 rs16 2 2 1 0", blank(DieKind::Plain)),
+        ("play quiet 1 worn rs16 2 2 1 0 2 4294967295", blank(worn)),
+        ("play quiet 1 pair rs16 2 2 1 0", blank(DieKind::Pair)),
+        ("play quiet 1 run", DieFrom::Image),
     ] {
         let asked = Asked {
             from: LinesFrom::Stream,
             voice: Voice::Quiet,
             every: 1,
-            die: AskedDie { head: HEAD, kind },
+            die,
         };
         assert_eq!(rt; read(rt.alloc(), line)?, Some(asked));
     }
@@ -92,6 +95,8 @@ fn bad_words_ask_for_nothing(rt: HostRuntime) -> Result<(), Fail> {
         "play loud 10 worn rs16 2 2 1 0 3 0",
         "play loud 10 worn rs16 2 2 1 0 0 4294967296",
         "play loud 10 worn rs16 2 2 1 0",
+        "play loud 10 run rs16 2 2 1 0",
+        "play loud 10 upgrade",
     ] {
         assert_eq!(rt; read(rt.alloc(), line)?, None);
     }

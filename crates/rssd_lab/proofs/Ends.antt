@@ -1,12 +1,13 @@
 -- What came of a stream, or was drawn, and how the run of it ended, make what a status says.
-use Rattle.std.proofs.Common.{◌≡◌, ◌⊎◌, inl, inr, ℕ, zero, suc, ◌+◌, ◌-◌, ◌^◌, ◌<◌, Bool, true, false, List, [], ◌∷◌, ◌++◌, length, ap, sym, ◌∙◌, subst, arith}
-use Rattle.std.specs.Prelude.{if◌then◌else◌, ◌&&◌, ◌==◌, nat_lt}
+use Rattle.std.proofs.Common.{◌≡◌, ◌⊎◌, inl, inr, ℕ, zero, suc, ◌+◌, ◌-◌, ◌^◌, ◌<◌, Bool, true, false, List, [], ◌∷◌, ◌++◌, length, Result, Ok, Err, ap, sym, ◌∙◌, subst, arith}
+use Rattle.std.specs.Prelude.{IfOk, IfErr, if◌then◌else◌, ◌&&◌, ◌==◌, nat_lt}
+use Rattle.cell_die.specs.DieState.{DieState}
 use Rattle.rssd_core.specs.DeviceValue.{DeviceValue}
 use Rattle.rssd_io.specs.Event.{Event, HasFailed}
 use Rattle.rssd_script.specs.declared.lines.Line.{Line}
 use Rattle.rssd_script.specs.declared.lines.Line.TheVariants.{Write, Read, Trim, Idle}
 use Rattle.rssd_run.specs.Played.{IsPlayed}
-use Rattle.rssd_run.specs.Statuses.{input, output}
+use Rattle.rssd_run.specs.Statuses.{Input, Output, IsUntouched, input, output}
 use Rattle.lab_lines.specs.declared.drawn.Drawn.{Drawn}
 use Rattle.lab_lines.specs.declared.lines.LinesEnd.{LinesEnd}
 use Rattle.lab_lines.specs.declared.lines.LinesEnd.TheVariants as ends
@@ -18,18 +19,33 @@ use Rattle.lab_stream.specs.declared.stream.Stream.{Stream}
 use Rattle.lab_stream.specs.Streaming.{ahead_of, lines_of, TakesLine, TakesNone, StopsStream}
 use Rattle.lab_stream.specs.Spelled.{Streamed}
 use Rattle.lab_stream.proofs.Spelled.{streamed, streamed_text, streamed_bad, counted}
+use Rattle.lab_lines.specs.declared.kind.Kind.{Kind}
+use Rattle.lab_words.specs.declared.asked.LinesFrom.{LinesFrom}
+use Rattle.lab_words.specs.declared.asked.LinesFrom.TheVariants.{Stream as FromStream, Drawn as FromDrawn}
 use Rattle.rssd_lab.specs.declared.telling.Telling.{Telling}
+use Rattle.rssd_lab.specs.declared.stage.Stage.{Stage}
+use Rattle.rssd_lab.specs.declared.status.Halt.{Halt}
+use Rattle.rssd_lab.specs.declared.status.Halt.TheVariants.{NoSpare, Ended}
 use Rattle.rssd_lab.specs.declared.status.Status.{Status}
 use Rattle.rssd_lab.specs.declared.status.Stop.{Stop}
 use Rattle.rssd_lab.specs.declared.status.Stop.TheVariants as stops
 use Rattle.rssd_lab.specs.declared.pace.Paced.{Paced}
 use Rattle.rssd_lab.specs.Pacing.{inner_of}
-use Rattle.rssd_lab.specs.Started.{StopsFrom}
+use Rattle.rssd_lab.specs.Stages.{StartOn, head_on}
+use Rattle.rssd_lab.specs.Started.{RunsFrom, StopsFrom}
 use Rattle.rssd_lab.specs.Top.{GivesLine, SaysStopped, bad_line}
-use Rattle.rssd_lab.specs.Listed.{RunEnds, PlaysList, StopsList}
-use Rattle.rssd_lab.specs.Ends.{SaysPlay, SaysDraw, PlaysInput, IsOutside, IsUnplayed, IsCutOff, IsShortOfMemory, IsShortOfDrawn, IsUntold, IsUntoldDrawn}
+use Rattle.rssd_lab.specs.Listed.{RunHalts, PlaysList, StopsList}
+use Rattle.rssd_lab.specs.Ends.{StopsInput, StopsDrawn, PlaysInput, PlaysDrawn, HaltsInput, HaltsDrawn, HaltsOf, StopsOf, plan_for, IsOutside, IsUnplayed, IsCutOff, IsShortOfMemory, IsShortOfDrawn, IsUntold, IsUntoldDrawn}
 use Rattle.rssd_lab.proofs.Stopped.{sink_failed}
 use Rattle.rssd_lab.proofs.Listed.{AllListed, ListedUpTo, ListedUnplayed, ListedUntold, all_listed, listed_up_to, listed_unplayed, listed_untold}
+
+pub where_ok : {T E : Type 0} {P Q : T → Type 0} (r : Result T E) → ((x : T) → P x → Q x) → IfOk r P → IfOk r Q
+where_ok (Ok x) so holds = so x holds
+where_ok (Err e) so holds = tt
+
+pub where_err : {T E : Type 0} {P Q : E → Type 0} (r : Result T E) → ((e : E) → P e → Q e) → IfErr r P → IfErr r Q
+where_err (Ok x) so holds = tt
+where_err (Err e) so holds = so e holds
 
 -- lines that came through a supply that passes them on
 through : {L M : Type 0} (f : L → M) (gives : M → Line → M → Type 0) (old new : L) (lines : List Line) → AllGiven (λ a line b. gives (f a) line (f b)) old lines new → AllGiven gives (f old) lines (f new)
@@ -41,8 +57,8 @@ through f gives old new (line ∷ lines) given = (f given.0, given.1, through f 
 abbrev Gives : {S P : Type 0} → (S → List Event) → Paced (Stream S) P → Line → Paced (Stream S) P → Type 0
 Gives log old line new = TakesLine log (inner_of old) line (inner_of new)
 
-abbrev Ended : {S P : Type 0} → (S → List Event) → Paced (Stream S) P → Paced (Stream S) P → Type 0
-Ended log old new = TakesNone log (inner_of old) (inner_of new)
+abbrev EndedBy : {S P : Type 0} → (S → List Event) → Paced (Stream S) P → Paced (Stream S) P → Type 0
+EndedBy log old new = TakesNone log (inner_of old) (inner_of new)
 
 abbrev Stops : {S P : Type 0} → (S → List Event) → Paced (Stream S) P → LinesEnd → Paced (Stream S) P → Type 0
 Stops log old why new = StopsStream log (inner_of old) why (inner_of new)
@@ -54,12 +70,12 @@ module _ {S P : Type 0} (log : S → List Event) (telling : Telling) (Start : De
   came : (last : Paced (Stream S) P) (lines : List Line) → AllGiven (Gives log) old lines last → AllGiven (TakesLine log) (inner_of old) lines (inner_of last)
   came last lines given = through inner_of (TakesLine log) old last lines given
 
-  plays_input : (out_after : List Event) → AllListed (Gives log) (Ended log) telling Start old new out out_after
-      → PlaysInput telling Start (input (log (inner_of old).source) (log (inner_of new).source)) (output out out_after)
-  plays_input out_after all = at all.ends
+  pub plays_input : (End : DieState → Type 0) (out_after : List Event) → AllListed (Gives log) (EndedBy log) telling Start End old new out out_after
+      → PlaysInput telling Start End (input (log (inner_of old).source) (log (inner_of new).source)) (output out out_after)
+  plays_input End out_after all = at all.ends
     where
-      at : Ended log all.last new ⊎ ((length all.listed ≡ 2 ^ 64 - 1) × (new ≡ all.last))
-          → PlaysInput telling Start (input (log (inner_of old).source) (log (inner_of new).source)) (output out out_after)
+      at : EndedBy log all.last new ⊎ ((length all.listed ≡ 2 ^ 64 - 1) × (new ≡ all.last))
+          → PlaysInput telling Start End (input (log (inner_of old).source) (log (inner_of new).source)) (output out out_after)
       at (inl none) = record {
         lines = all.listed;
         came = record {
@@ -134,48 +150,45 @@ module _ {S P : Type 0} (log : S → List Event) (telling : Telling) (Start : De
     line = line;
   }
 
-  untold : (between : List Event) → ListedUntold (Gives log) (Ended log) telling Start old new out between → HasFailed out between
+  untold : (between : List Event) → ListedUntold (Gives log) (EndedBy log) telling Start old new out between → HasFailed out between
       → IsUntold telling Start (input (log (inner_of old).source) (log (inner_of new).source)) (output out between)
   untold between cut failed = record { lines = cut.listed; came = (ahead_of (inner_of new), streams cut.ends); plays = cut.plays; failed = failed }
     where
-      streams : (new ≡ cut.last) ⊎ Ended log cut.last new → Streamed (log (inner_of old).source) (log (inner_of new).source) cut.listed (ahead_of (inner_of new))
+      streams : (new ≡ cut.last) ⊎ EndedBy log cut.last new → Streamed (log (inner_of old).source) (log (inner_of new).source) cut.listed (ahead_of (inner_of new))
       streams (inl same) =
           subst (λ (last : Paced (Stream S) P). Streamed (log (inner_of old).source) (log (inner_of last).source) cut.listed (ahead_of (inner_of last))) (sym same)
           (streamed log (inner_of old) (inner_of cut.last) cut.listed none_ahead (came cut.last cut.listed cut.given))
       streams (inr none) =
           streamed_text log (inner_of old) (inner_of cut.last) (inner_of new) cut.listed none_ahead (came cut.last cut.listed cut.given) [] none.takes (inr (none.none, none.ended))
 
-  stopped : (why : Stop) (between out_after : List Event) (status : Status) → StopsFrom (Gives log) (Ended log) (Stops log) telling Start why old new out between
-      → SaysStopped why status between out_after → SaysPlay telling Start (input (log (inner_of old).source) (log (inner_of new).source)) (output out out_after) status
+  pub stopped : (why : Stop) (between out_after : List Event) (status : Status) → StopsFrom (Gives log) (EndedBy log) (Stops log) telling Start why old new out between
+      → SaysStopped why status between out_after → StopsInput telling Start (input (log (inner_of old).source) (log (inner_of new).source)) (output out out_after) status
   stopped (stops.Lines (ends.OutOfMemory)) between out_after status run says =
-      let listed = listed_up_to (Gives log) (Ended log) (Stops log) telling Start old new out between ends.OutOfMemory run in
-      subst (SaysPlay telling Start (input (log (inner_of old).source) (log (inner_of new).source)) (output out out_after)) (sym says.0)
+      let listed = listed_up_to (Gives log) (EndedBy log) (Stops log) telling Start old new out between ends.OutOfMemory run in
+      subst (StopsInput telling Start (input (log (inner_of old).source) (log (inner_of new).source)) (output out out_after)) (sym says.0)
       (inr (short out_after (subst (λ (after : List Event). ListedUpTo (Gives log) (Stops log) telling Start ends.OutOfMemory old new out after) (sym says.1) listed)))
   stopped (stops.Lines (ends.Fault)) between out_after status run says =
-      let listed = listed_up_to (Gives log) (Ended log) (Stops log) telling Start old new out between ends.Fault run in
-      subst (SaysPlay telling Start (input (log (inner_of old).source) (log (inner_of new).source)) (output out out_after)) (sym says.0)
+      let listed = listed_up_to (Gives log) (EndedBy log) (Stops log) telling Start old new out between ends.Fault run in
+      subst (StopsInput telling Start (input (log (inner_of old).source) (log (inner_of new).source)) (output out out_after)) (sym says.0)
       (cut_off out_after (subst (λ (after : List Event). ListedUpTo (Gives log) (Stops log) telling Start ends.Fault old new out after) (sym says.1) listed))
   stopped (stops.Lines (ends.BadLine number)) between out_after status run says =
-      subst (SaysPlay telling Start (input (log (inner_of old).source) (log (inner_of new).source)) (output out out_after)) (sym says.0)
-      (inl (outside number between out_after (listed_up_to (Gives log) (Ended log) (Stops log) telling Start old new out between (ends.BadLine number) run) says.1))
+      subst (StopsInput telling Start (input (log (inner_of old).source) (log (inner_of new).source)) (output out out_after)) (sym says.0)
+      (inl (outside number between out_after (listed_up_to (Gives log) (EndedBy log) (Stops log) telling Start old new out between (ends.BadLine number) run) says.1))
   stopped (stops.NotPlayed number) between out_after status run says =
-      subst (SaysPlay telling Start (input (log (inner_of old).source) (log (inner_of new).source)) (output out out_after)) (sym says.0)
-      (inr (unplayed number between out_after (listed_unplayed (Gives log) (Ended log) (Stops log) telling Start old new out between number run) says.1))
+      subst (StopsInput telling Start (input (log (inner_of old).source) (log (inner_of new).source)) (output out out_after)) (sym says.0)
+      (inr (unplayed number between out_after (listed_unplayed (Gives log) (EndedBy log) (Stops log) telling Start old new out between number run) says.1))
   stopped (stops.Sink) between out_after status run says =
-      let cut = untold between (listed_untold (Gives log) (Ended log) (Stops log) telling Start old new out between run)
-      (sink_failed (Gives log) (Ended log) (Stops log) telling run.0 old new out between run.2) in
-      subst (SaysPlay telling Start (input (log (inner_of old).source) (log (inner_of new).source)) (output out out_after)) (sym says.0)
+      let cut = untold between (listed_untold (Gives log) (EndedBy log) (Stops log) telling Start old new out between run)
+      (sink_failed (Gives log) (EndedBy log) (Stops log) telling run.0 old new out between run.2) in
+      subst (StopsInput telling Start (input (log (inner_of old).source) (log (inner_of new).source)) (output out out_after)) (sym says.0)
       (subst (λ (after : List Event). IsUntold telling Start (input (log (inner_of old).source) (log (inner_of new).source)) (output out after)) (sym says.1) cut)
   stopped (stops.OutOfMemory) between out_after status run says =
-      subst (SaysPlay telling Start (input (log (inner_of old).source) (log (inner_of new).source)) (output out out_after)) (sym says.0)
+      subst (StopsInput telling Start (input (log (inner_of old).source) (log (inner_of new).source)) (output out out_after)) (sym says.0)
       (inl (ap (λ (lines : Paced (Stream S) P). log (inner_of lines).source) run.0, says.1 ∙ run.1))
 
-  pub play_says : (out_after : List Event) (status : Status) → RunEnds (Gives log) (Ended log) (Stops log) telling Start old new out out_after status
-      → SaysPlay telling Start (input (log (inner_of old).source) (log (inner_of new).source)) (output out out_after) status
-  play_says out_after status (inl done) =
-      subst (SaysPlay telling Start (input (log (inner_of old).source) (log (inner_of new).source)) (output out out_after)) (sym done.0)
-      (plays_input out_after (all_listed (Gives log) (Ended log) (Stops log) telling Start old new out out_after done.1))
-  play_says out_after status (inr stop) = stopped stop.0 stop.1 out_after status stop.2 stop.3
+  pub all_played : (End : DieState → Type 0) (out_after : List Event) → RunsFrom (Gives log) (EndedBy log) telling Start End old new out out_after
+      → PlaysInput telling Start End (input (log (inner_of old).source) (log (inner_of new).source)) (output out out_after)
+  all_played End out_after run = plays_input End out_after (all_listed (Gives log) (EndedBy log) (Stops log) telling Start old new out out_after End run)
 
 -- ---- lines that are drawn
 
@@ -217,13 +230,13 @@ module _ {P : Type 0} (telling : Telling) (Start : DeviceValue → Type 0) (old 
       let is = first_lines (inner_of old) (inner_of last) lines (through inner_of DrawsLine old last lines given) in
       (is.0 ∙ ap (drawn_from (plan_of (inner_of old)) (length lines)) start, is.1)
 
-  plays_drawn : (out_after : List Event) → AllListed Draws DrawsNoMore telling Start old new out out_after
-      → PlaysList telling Start (drawn_lines (plan_of (inner_of old)) (left_of (inner_of old)) seed) out out_after
-  plays_drawn out_after all =
+  plays_drawn : (End : DieState → Type 0) (out_after : List Event) → AllListed Draws DrawsNoMore telling Start End old new out out_after
+      → PlaysList telling Start End (drawn_lines (plan_of (inner_of old)) (left_of (inner_of old)) seed) out out_after
+  plays_drawn End out_after all =
       let is = first all.last all.listed all.given in
       let none : length all.listed ≡ left_of (inner_of old) = elim all.ends [ inl none ↦ omega (arith, none.none, is.1) | inr many ↦ omega (arith, many.0, is.1, few) ] in
       let lines : all.listed ≡ drawn_lines (plan_of (inner_of old)) (left_of (inner_of old)) seed = is.0 ∙ ap (λ (k : ℕ). drawn_lines (plan_of (inner_of old)) k seed) none in
-      subst (λ (list : List Line). PlaysList telling Start list out out_after) lines all.plays
+      subst (λ (list : List Line). PlaysList telling Start End list out out_after) lines all.plays
 
   short_drawn : (out_after : List Event) → ListedUpTo Draws DrawsStop telling Start ends.OutOfMemory old new out out_after
       → IsShortOfDrawn telling Start (plan_of (inner_of old)) seed (left_of (inner_of old)) (output out out_after)
@@ -247,10 +260,10 @@ module _ {P : Type 0} (telling : Telling) (Start : DeviceValue → Type 0) (old 
       }
 
   stopped_drawn : (why : Stop) (between out_after : List Event) (status : Status) → StopsFrom Draws DrawsNoMore DrawsStop telling Start why old new out between
-      → SaysStopped why status between out_after → SaysDraw telling Start (plan_of (inner_of old)) seed (left_of (inner_of old)) (output out out_after) status
+      → SaysStopped why status between out_after → StopsDrawn telling Start (plan_of (inner_of old)) seed (left_of (inner_of old)) (output out out_after) status
   stopped_drawn (stops.Lines (ends.OutOfMemory)) between out_after status run says =
       let listed = listed_up_to Draws DrawsNoMore DrawsStop telling Start old new out between ends.OutOfMemory run in
-      subst (SaysDraw telling Start (plan_of (inner_of old)) seed (left_of (inner_of old)) (output out out_after)) (sym says.0)
+      subst (StopsDrawn telling Start (plan_of (inner_of old)) seed (left_of (inner_of old)) (output out out_after)) (sym says.0)
       (inr (short_drawn out_after (subst (λ (after : List Event). ListedUpTo Draws DrawsStop telling Start ends.OutOfMemory old new out after) (sym says.1) listed)))
   stopped_drawn (stops.Lines (ends.Fault)) between out_after status run says =
       let listed = listed_up_to Draws DrawsNoMore DrawsStop telling Start old new out between ends.Fault run in
@@ -267,14 +280,51 @@ module _ {P : Type 0} (telling : Telling) (Start : DeviceValue → Type 0) (old 
   stopped_drawn (stops.Sink) between out_after status run says =
       let cut = untold_drawn between (listed_untold Draws DrawsNoMore DrawsStop telling Start old new out between run)
       (sink_failed Draws DrawsNoMore DrawsStop telling run.0 old new out between run.2) in
-      subst (SaysDraw telling Start (plan_of (inner_of old)) seed (left_of (inner_of old)) (output out out_after)) (sym says.0)
+      subst (StopsDrawn telling Start (plan_of (inner_of old)) seed (left_of (inner_of old)) (output out out_after)) (sym says.0)
       (subst (λ (after : List Event). IsUntoldDrawn telling Start (plan_of (inner_of old)) seed (left_of (inner_of old)) (output out after)) (sym says.1) cut)
   stopped_drawn (stops.OutOfMemory) between out_after status run says =
-      subst (SaysDraw telling Start (plan_of (inner_of old)) seed (left_of (inner_of old)) (output out out_after)) (sym says.0) (inl (says.1 ∙ run.1))
+      subst (StopsDrawn telling Start (plan_of (inner_of old)) seed (left_of (inner_of old)) (output out out_after)) (sym says.0) (inl (says.1 ∙ run.1))
 
-  pub draw_says : (out_after : List Event) (status : Status) → RunEnds Draws DrawsNoMore DrawsStop telling Start old new out out_after status
-      → SaysDraw telling Start (plan_of (inner_of old)) seed (left_of (inner_of old)) (output out out_after) status
-  draw_says out_after status (inl done) =
-      subst (SaysDraw telling Start (plan_of (inner_of old)) seed (left_of (inner_of old)) (output out out_after)) (sym done.0)
-      (plays_drawn out_after (all_listed Draws DrawsNoMore DrawsStop telling Start old new out out_after done.1))
-  draw_says out_after status (inr stop) = stopped_drawn stop.0 stop.1 out_after status stop.2 stop.3
+  pub all_drawn : (End : DieState → Type 0) (out_after : List Event) → RunsFrom Draws DrawsNoMore telling Start End old new out out_after
+      → PlaysDrawn telling Start End (plan_of (inner_of old)) seed (left_of (inner_of old)) (output out out_after)
+  all_drawn End out_after run = plays_drawn End out_after (all_listed Draws DrawsNoMore DrawsStop telling Start old new out out_after End run)
+
+-- ---- a stage
+
+abbrev stage_input : {S P : Type 0} → (S → List Event) → Paced (Stream S) P → Paced (Stream S) P → Input
+stage_input log old new = input (log (inner_of old).source) (log (inner_of new).source)
+
+pub input_halts : {S P : Type 0} (log : S → List Event) (telling : Telling) (stage : Stage) (old new : Paced (Stream S) P)
+    → ahead_of (inner_of old) ≡ [] → lines_of (inner_of old) ≡ 0 → (out out_after : List Event) (halt : Halt)
+    → RunHalts (Gives log) (EndedBy log) (Stops log) telling stage halt old new out out_after → HaltsInput telling stage (stage_input log old new) (output out out_after) halt
+input_halts {S} {P} log telling stage old new none_ahead none_counted out out_after NoSpare full =
+    (full.0, ap (λ (lines : Paced (Stream S) P). log (inner_of lines).source) full.1, full.2)
+input_halts log telling stage old new none_ahead none_counted out out_after (Ended status) stop =
+    stopped log telling (StartOn stage) old new none_ahead none_counted out stop.0 stop.1 out_after status stop.2 stop.3
+
+pub drawn_halts : {P : Type 0} (telling : Telling) (stage : Stage) (old new : Paced Drawn P) (seed : ℕ) → state_of (inner_of old) ≡ record { words = seed; turn = 0 }
+    → left_of (inner_of old) < 2 ^ 64 → (out out_after : List Event) (halt : Halt)
+    → RunHalts Draws DrawsNoMore DrawsStop telling stage halt old new out out_after
+    → HaltsDrawn telling stage (plan_of (inner_of old)) seed (left_of (inner_of old)) (output out out_after) halt
+drawn_halts telling stage old new seed start few out out_after NoSpare full = (full.0, full.2)
+drawn_halts telling stage old new seed start few out out_after (Ended status) stop =
+    stopped_drawn telling (StartOn stage) old new seed start few out stop.0 stop.1 out_after status stop.2 stop.3
+
+-- ---- an order
+
+pub order_halts : (from : LinesFrom) → from ≡ FromStream → (telling : Telling) (stage : Stage) (input : Input) (out : Output) (halt : Halt) → HaltsInput telling stage input out halt
+    → HaltsOf from telling stage input out halt
+order_halts from is telling stage input out NoSpare full = full
+order_halts from is telling stage input out (Ended status) stops =
+    subst (λ (f : LinesFrom). StopsOf f telling (head_on stage) (StartOn stage) input out status) (sym is) stops
+
+pub drawn_order_halts : (from : LinesFrom) (kind : Kind) (seed count idle : ℕ) → from ≡ FromDrawn kind seed count idle → (telling : Telling) (stage : Stage) (input : Input) (out : Output)
+    → IsUntouched input → (plan : DrawPlan) → plan ≡ plan_for (head_on stage) kind idle → (left : ℕ) → left ≡ count → (halt : Halt) → HaltsDrawn telling stage plan seed left out halt
+    → HaltsOf from telling stage input out halt
+drawn_order_halts from kind seed count idle is telling stage input out unread plan of_head left left_is NoSpare full = (full.0, unread, full.1)
+drawn_order_halts from kind seed count idle is telling stage input out unread plan of_head left left_is (Ended status) stops =
+    subst (λ (f : LinesFrom). StopsOf f telling (head_on stage) (StartOn stage) input out status) (sym is) (
+      subst (λ (p : DrawPlan). StopsDrawn telling (StartOn stage) p seed count out status) of_head
+          (subst (λ (n : ℕ). StopsDrawn telling (StartOn stage) plan seed n out status) left_is stops),
+      unread,
+    )

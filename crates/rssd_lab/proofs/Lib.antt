@@ -5,4 +5,5 @@ pub mod Told
 pub mod Stopped
 pub mod Listed
 pub mod Ends
+pub mod Settled
 pub mod Completes

@@ -2,6 +2,7 @@
 use Rattle.std.proofs.Common.{◌≡◌, ◌⊎◌, inl, inr, ℕ, ◌+◌, ◌-◌, ◌^◌, ◌≤◌, List, [], ◌∷◌, ◌++◌, length, refl, ap, sym, ◌∙◌, subst, arith}
 use Rattle.std.specs.Prelude.{min}
 use Rattle.cell_die.specs.Counts.{raised}
+use Rattle.cell_die.specs.DieState.{DieState}
 use Rattle.count_die.specs.declared.tally.Totals.{Totals}
 use Rattle.rssd_core.specs.DeviceValue.{Numbers, DeviceValue}
 use Rattle.rssd_io.specs.Event.{Event}
@@ -77,12 +78,12 @@ module _ {L : Type 0} (gives : L → Line → L → Type 0) (d : Numbers) (telli
 
 -- all lines of a supply came, and were played and told
 pub record AllListed {L : Type 0} (gives : L → Line → L → Type 0) (ended : L → L → Type 0) (telling : Telling)
-    (Start : DeviceValue → Type 0) (lines lines_after : L) (log log_after : List Event) : Type 0 where
+    (Start : DeviceValue → Type 0) (End : DieState → Type 0) (lines lines_after : L) (log log_after : List Event) : Type 0 where
   pub listed : List Line
   pub last : L
   pub given : AllGiven gives lines listed last
   pub ends : ended last lines_after ⊎ ((length listed ≡ 2 ^ 64 - 1) × (lines_after ≡ last))
-  pub plays : PlaysList telling Start listed log log_after
+  pub plays : PlaysList telling Start End listed log log_after
 
 -- the same up to where none came
 pub record ListedUpTo {L : Type 0} (gives : L → Line → L → Type 0) (stops : L → LinesEnd → L → Type 0) (telling : Telling)
@@ -114,8 +115,8 @@ pub record ListedUntold {L : Type 0} (gives : L → Line → L → Type 0) (ende
 
 module _ {L : Type 0} (gives : L → Line → L → Type 0) (ended : L → L → Type 0) (stops : L → LinesEnd → L → Type 0) (telling : Telling)
     (Start : DeviceValue → Type 0) (lines lines_after : L) (log log_after : List Event) where
-  pub all_listed : RunsFrom gives ended telling Start lines lines_after log log_after → AllListed gives ended telling Start lines lines_after log log_after
-  all_listed run =
+  pub all_listed : (End : DieState → Type 0) → RunsFrom gives ended telling Start End lines lines_after log log_after → AllListed gives ended telling Start End lines lines_after log log_after
+  all_listed End run =
       let device : DeviceValue = run.0 in
       let runs = run.2 in
       let plays = runs.plays in
@@ -140,6 +141,7 @@ module _ {L : Type 0} (gives : L → Line → L → Type 0) (ended : L → L →
             lines_last = refl;
             tells = runs.tells;
           },
+          run.3,
         );
       }
 

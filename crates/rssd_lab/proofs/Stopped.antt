@@ -1,6 +1,7 @@
 -- What a run leaves that stopped, and that its log has grown.
 use Rattle.std.proofs.Common.{◌≡◌, inl, inr, List, [], ◌∷◌, ◌++◌, Result, Ok, Err, refl, ap, sym, ◌∙◌, subst, append-nil}
 use Rattle.std.specs.Prelude.{OnOk, IfErr}
+use Rattle.cell_die.specs.DieState.{DieState}
 use Rattle.rssd_core.specs.DeviceValue.{Numbers, DeviceValue}
 use Rattle.rssd_io.specs.Event.{Event, Grows, HasFailed}
 use Rattle.rssd_io.proofs.Logs.{came_behind}
@@ -67,26 +68,25 @@ module _ {L : Type 0} (gives : L → Line → L → Type 0) (ended : L → L →
       let more = grew gives device.numbers telling (state_at lines device end.score start) (record end.last { lines = all.last }) all.answered all.plays in
       failed_later log end.last.log log_after (handed (run_head ∷ []) ++ more.0) (came_behind log start end.last.log (handed (run_head ∷ [])) more.0 refl more.1) end.failed
 
-  started_stops : (Start : DeviceValue → Type 0) → Start device → (lines after : L) (log log_after : List Event) (why : Stop)
+  pub started_stops : (Start : DeviceValue → Type 0) → Start device → (lines after : L) (log log_after : List Event) (why : Stop)
       → StopsRun gives ended stops telling device why lines after log log_after → StopsFrom gives ended stops telling Start why lines after log log_after
   started_stops Start begins lines after log log_after (Lines why) stopped = (device, begins, stopped)
   started_stops Start begins lines after log log_after (NotPlayed number) stopped = (device, begins, stopped)
   started_stops Start begins lines after log log_after Sink stopped = (device, begins, stopped)
   started_stops Start begins lines after log log_after OutOfMemory stopped = absurd stopped
 
-  pub stops_from : (r : Result (Unit {0}) Stop) (Start : DeviceValue → Type 0) → Start device → (lines after : L) (log log_after : List Event)
-      → IfErr r (λ why. StopsRun gives ended stops telling device why lines after log log_after) → IfErr r (λ why. StopsFrom gives ended stops telling Start why lines after log log_after)
-  stops_from (Ok x) Start begins lines after log log_after stopped = tt
-  stops_from (Err why) Start begins lines after log log_after stopped = started_stops Start begins lines after log log_after why stopped
-
 -- where each device of the one start is one of the other
 module _ {L : Type 0} (gives : L → Line → L → Type 0) (ended : L → L → Type 0) (stops : L → LinesEnd → L → Type 0) (telling : Telling)
     (S T : DeviceValue → Type 0) (each : (device : DeviceValue) → S device → T device) (lines after : L) (log log_after : List Event) where
-  pub runs_more : {E : Type 0} (r : Result (Unit {0}) E) → OnOk r (RunsFrom gives ended telling S lines after log log_after) → OnOk r (RunsFrom gives ended telling T lines after log log_after)
-  runs_more (Ok x) run = (run.0, each run.0 run.1, run.2)
-  runs_more (Err why) run = tt
+  pub runs_so : (P Q : DieState → Type 0) → ((die : DieState) → P die → Q die) → RunsFrom gives ended telling S P lines after log log_after → RunsFrom gives ended telling T Q lines after log log_after
+  runs_so P Q left run = (run.0, each run.0 run.1, run.2, left run.2.last.device.view.die run.3)
 
-  stops_so : (why : Stop) → StopsFrom gives ended stops telling S why lines after log log_after → StopsFrom gives ended stops telling T why lines after log log_after
+  pub runs_more : {E : Type 0} (r : Result (Unit {0}) E) (End : DieState → Type 0)
+      → OnOk r (RunsFrom gives ended telling S End lines after log log_after) → OnOk r (RunsFrom gives ended telling T End lines after log log_after)
+  runs_more (Ok x) End run = runs_so End End (λ die left. left) run
+  runs_more (Err why) End run = tt
+
+  pub stops_so : (why : Stop) → StopsFrom gives ended stops telling S why lines after log log_after → StopsFrom gives ended stops telling T why lines after log log_after
   stops_so (Lines why) stop = (stop.0, each stop.0 stop.1, stop.2)
   stops_so (NotPlayed number) stop = (stop.0, each stop.0 stop.1, stop.2)
   stops_so Sink stop = (stop.0, each stop.0 stop.1, stop.2)

@@ -1,8 +1,9 @@
 pub mod Chain
 pub mod Pacing
 pub mod Runs
-pub mod Started
 pub mod Dies
+pub mod Stages
+pub mod Started
 pub mod Top
 pub mod Listed
 pub mod Ends

@@ -139,6 +139,11 @@ pub record Runs {L : Type 0} (gives : L → Line → L → Type 0) (ended : L �
   pub lines_last : last.lines ≡ lines_after
   pub tells : TellsAtEnd telling last.device last.score last.log log_after
 
+-- a run that left this device
+abbrev pub RunsTo : {L : Type 0} → (L → Line → L → Type 0) → (L → L → Type 0) → Telling → DeviceValue → DeviceValue → L → L → List Event → List Event → Type 0
+RunsTo gives ended telling device device_after lines lines_after log log_after =
+    (runs : Runs gives ended telling device lines lines_after log log_after) × (runs.last.device ≡ device_after)
+
 -- the same up to where it stopped, with no table at its end
 pub record RunsUpTo {L : Type 0} (gives : L → Line → L → Type 0) (stops : L → LinesEnd → L → Type 0) (telling : Telling) (device : DeviceValue) (why : Stop) (lines lines_after : L) (log log_after : List Event) : Type 0 where
   pub score : Score

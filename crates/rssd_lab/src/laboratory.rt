@@ -5,7 +5,7 @@ ghost use Rattle.rssd_script.specs.Replies.{reply_line};
 ghost use Rattle.rssd_run.specs.Played.{IsPlayed, Plays, PlaysQuiet};
 ghost use Rattle.lab_tables.specs.Answered.{answered_more};
 ghost use Rattle.lab_tables.specs.Tables.{kind_table, block_table};
-ghost use Rattle.rssd_lab.specs.Runs.{IsCounted, handed, told_for, row_now, is_due, state_at, PlaysAll, StopsLines, TellsAtEnd, IsFirst, Runs, StopsRun};
+ghost use Rattle.rssd_lab.specs.Runs.{IsCounted, handed, told_for, row_now, is_due, state_at, PlaysAll, StopsLines, TellsAtEnd, IsFirst, RunsTo, StopsRun};
 
 use crate::score::Score;
 use crate::status::Stop;
@@ -167,7 +167,7 @@ pub fn run<D: Die + Drop, C: Scheme + Drop, F: Device<CountDie<D>, C>, L: Lines,
     out: &mut O,
 ) -> Result<(), Stop>
     requires { (F.device ftl.old).numbers.geometry.sector_bytes ≤ 512 }
-    ensures done { OnOk result (Runs L.gives L.ended telling (F.device ftl.old) lines.old lines.new (O.log out.old) (O.log out.new)) }
+    ensures done { OnOk result (RunsTo L.gives L.ended telling (F.device ftl.old) (F.device ftl.new) lines.old lines.new (O.log out.old) (O.log out.new)) }
     ensures stops { IfErr result (λ why. StopsRun L.gives L.ended L.stops telling (F.device ftl.old) why lines.old lines.new (O.log out.old) (O.log out.new)) }
 {
     let mut score = first_score(ftl);

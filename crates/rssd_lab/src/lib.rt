@@ -2,20 +2,22 @@
 //! No list of the lines is held, so its memory does not grow with their number.
 #![tactic(auto)]
 
-mod blank;
 mod laboratory;
 mod on_die;
 mod pace;
+mod ready;
 mod score;
+mod stage;
 mod status;
 mod telling;
 mod top;
 
-pub use blank::{Blank, pair, plain, worn};
 pub use laboratory::run;
 pub use on_die::{run_asked, run_on};
 pub use pace::{Pace, Paced};
+pub use ready::{Ready, pair, plain, read_ready, worn};
 pub use score::Score;
-pub use status::{Outcome, Status, Stop};
+pub use stage::{Stage, run_stage};
+pub use status::{Halt, NotRun, Outcome, Sources, Status, Stop};
 pub use telling::Telling;
 pub use top::lab;

@@ -1,16 +1,19 @@
-//! A laboratory on a blank die, for each scheme of the table and each kind of die. The die that counts stands outermost: what
+//! A laboratory on a die, for each scheme of the table, and on a blank one of each kind. The die that counts stands outermost: what
 //! the device asks of its die is counted, and no call that a die with reserve blocks makes by itself.
 ghost use Rattle.std.specs.Prelude.{◌≡◌, IfOk, IfErr, OnOk};
+ghost use Rattle.die_image.specs.Image.{shape_of};
 ghost use Rattle.rssd_core.specs.Mount.{Mounts};
 ghost use Rattle.lab_words.specs.Orders.{IsDieWithin};
 ghost use Rattle.rssd_run.specs.Heads.{numbers_named};
+ghost use Rattle.rssd_run.specs.PlayRuns.{IsBlankDie};
 ghost use Rattle.rssd_run.specs.Schemes.{meaning_named};
 ghost use Rattle.rssd_lab.specs.Dies.{IsBlankDevice};
-ghost use Rattle.rssd_lab.specs.Started.{RunsFrom, StopsFrom};
+ghost use Rattle.rssd_lab.specs.Stages.{AnyDie};
+ghost use Rattle.rssd_lab.specs.Started.{RunsFrom, StopsFrom, StopsOn, RefusesMount};
 
-use crate::blank::{Blank, pair, plain, worn};
 use crate::laboratory::run;
-use crate::status::Stop;
+use crate::ready::{Ready, pair, plain, worn};
+use crate::status::{NotRun, Stop};
 use crate::telling::Telling;
 use cell_die::Die;
 use count_die::CountDie;
@@ -24,19 +27,19 @@ use rssd_run::run::schemes::{cosets, flips, pairs, plains, sevens};
 use std::alloc::{AllocError, Global};
 use striped::Scheme;
 
-/// A device of a blank die, mounted on a die over it that counts its calls.
+/// A device of a die, mounted on a die over it that counts its calls.
 fn mount<D: Die + Drop, C: Scheme + Drop, F: Device<CountDie<D>, C>>(
     alloc: Global,
-    blank: Blank<D>,
+    ready: Ready<D>,
     scheme: C,
-) -> Result<F, Stop>
-    requires { C.meaning scheme ≡ meaning_named blank.head.scheme }
-    ensures mounted { IfOk result (λ ftl. Mounts (numbers_named blank.head) (D.state blank.die) (F.device ftl)) }
-    ensures memory { IfErr result (λ why. why ≡ Stop.OutOfMemory) }
+) -> Result<F, NotRun>
+    requires { C.meaning scheme ≡ meaning_named ready.head.scheme }
+    ensures mounted { IfOk result (λ ftl. Mounts (numbers_named ready.head) (D.state ready.die) (F.device ftl)) }
+    ensures refused { IfErr result (λ why. RefusesMount (numbers_named ready.head) (D.state ready.die) why) }
 {
-    let Blank { head, die } = blank;
+    let Ready { head, die } = ready;
     let Ok(die) = CountDie::new(alloc, die) else {
-        return Err(Stop::OutOfMemory);
+        return Err(NotRun::Stopped(Stop::OutOfMemory));
     };
     let plan = Plan {
         sectors: head.sectors,
@@ -45,85 +48,112 @@ fn mount<D: Die + Drop, C: Scheme + Drop, F: Device<CountDie<D>, C>>(
     match F::mount(alloc, die, scheme, plan) {
         Ok(ftl) => Ok(ftl),
         Err(refused) => match refused.why {
-            MountError::OutOfMemory => Err(Stop::OutOfMemory),
-            MountError::Shape | MountError::DieFault | MountError::NoSpare => unreachable!(),
+            MountError::OutOfMemory => Err(NotRun::Stopped(Stop::OutOfMemory)),
+            MountError::NoSpare => Err(NotRun::NoSpare),
+            MountError::Shape | MountError::DieFault => unreachable!(),
         },
     }
 }
 
-/// Plays all lines on a blank die, as a device of the kind `F`.
+/// Plays all lines on a die, as a device of the kind `F`, and gives the die back.
 fn run_with<D: Die + Drop, C: Scheme + Drop, F: Device<CountDie<D>, C>, L: Lines, O: Sink>(
     alloc: Global,
     telling: Telling,
-    blank: Blank<D>,
+    ready: Ready<D>,
     scheme: C,
     lines: &mut L,
     out: &mut O,
-) -> Result<(), Stop>
-    requires { C.meaning scheme ≡ meaning_named blank.head.scheme }
-    ensures done { OnOk result (RunsFrom L.gives L.ended telling (Mounts (numbers_named blank.head) (D.state blank.die))
-        lines.old lines.new (O.log out.old) (O.log out.new)) }
-    ensures stops { IfErr result (λ why. StopsFrom L.gives L.ended L.stops telling (Mounts (numbers_named blank.head) (D.state blank.die)) why
+) -> Result<D, NotRun>
+    requires { C.meaning scheme ≡ meaning_named ready.head.scheme }
+    ensures done { IfOk result (λ left. RunsFrom L.gives L.ended telling (Mounts (numbers_named ready.head) (D.state ready.die))
+        (λ die. D.state left ≡ die) lines.old lines.new (O.log out.old) (O.log out.new)) }
+    ensures stops { IfErr result (λ why. StopsOn L.gives L.ended L.stops telling (numbers_named ready.head) (D.state ready.die) why
         lines.old lines.new (O.log out.old) (O.log out.new)) }
 {
-    match mount::<D, C, F>(alloc, blank, scheme) {
-        Ok(mut ftl) => run(alloc, &mut ftl, telling, lines, out),
-        Err(why) => Err(why),
+    let mut ftl = mount::<D, C, F>(alloc, ready, scheme)?;
+    match run(alloc, &mut ftl, telling, lines, out) {
+        Ok(()) => {
+            let (counting, _) = ftl.close();
+            let (die, _) = counting.into_parts();
+            Ok(die)
+        }
+        Err(why) => Err(NotRun::Stopped(why)),
     }
 }
 
-/// Plays all lines on a blank die, with a scheme that was made, or for which there was no memory.
+/// Plays all lines on a die, with a scheme that was made, or for which there was no memory.
 fn run_made<D: Die + Drop, C: Scheme + Drop, L: Lines, O: Sink>(
     alloc: Global,
     telling: Telling,
-    blank: Blank<D>,
+    ready: Ready<D>,
     made: Result<C, AllocError>,
     lines: &mut L,
     out: &mut O,
-) -> Result<(), Stop>
-    requires { IfOk made (λ scheme. C.meaning scheme ≡ meaning_named blank.head.scheme) }
-    ensures done { OnOk result (RunsFrom L.gives L.ended telling (Mounts (numbers_named blank.head) (D.state blank.die))
-        lines.old lines.new (O.log out.old) (O.log out.new)) }
-    ensures stops { IfErr result (λ why. StopsFrom L.gives L.ended L.stops telling (Mounts (numbers_named blank.head) (D.state blank.die)) why
+) -> Result<D, NotRun>
+    requires { IfOk made (λ scheme. C.meaning scheme ≡ meaning_named ready.head.scheme) }
+    ensures done { IfOk result (λ left. RunsFrom L.gives L.ended telling (Mounts (numbers_named ready.head) (D.state ready.die))
+        (λ die. D.state left ≡ die) lines.old lines.new (O.log out.old) (O.log out.new)) }
+    ensures stops { IfErr result (λ why. StopsOn L.gives L.ended L.stops telling (numbers_named ready.head) (D.state ready.die) why
         lines.old lines.new (O.log out.old) (O.log out.new)) }
 {
     match made {
         Ok(scheme) => {
-            run_with::<D, C, Ftl<CountDie<D>, C>, L, O>(alloc, telling, blank, scheme, lines, out)
+            run_with::<D, C, Ftl<CountDie<D>, C>, L, O>(alloc, telling, ready, scheme, lines, out)
         }
-        Err(_) => Err(Stop::OutOfMemory),
+        Err(_) => Err(NotRun::Stopped(Stop::OutOfMemory)),
     }
 }
 
-/// Plays all lines on a blank die that is mounted first, with the scheme of its head.
+/// Plays all lines on a die that is mounted first, with the scheme of its head, and gives the die back.
 ///
 /// # Errors
 ///
-/// Want of memory for the device, before anything is given; the end of the lines before all were played; a line that only a
-/// session takes; or a fault of the sink.
+/// `NoSpare` where each block of the die has a live record, or want of memory for the device, before anything is given; the end of
+/// the lines before all were played; a line that only a session takes; or a fault of the sink.
 #[tactic(auto, unfolding(rssd_run::specs::Schemes::meaning_named, die_image::specs::Schemes::row_of))]
 pub fn run_on<D: Die + Drop, L: Lines, O: Sink>(
     alloc: Global,
     telling: Telling,
-    blank: Blank<D>,
+    ready: Ready<D>,
+    lines: &mut L,
+    out: &mut O,
+) -> Result<D, NotRun>
+    ensures done { IfOk result (λ left. RunsFrom L.gives L.ended telling (Mounts (numbers_named ready.head) (D.state ready.die))
+        (λ die. D.state left ≡ die) lines.old lines.new (O.log out.old) (O.log out.new)) }
+    ensures stops { IfErr result (λ why. StopsOn L.gives L.ended L.stops telling (numbers_named ready.head) (D.state ready.die) why
+        lines.old lines.new (O.log out.old) (O.log out.new)) }
+{
+    match ready.head.scheme {
+        SchemeName::Plain16 => run_made(alloc, telling, ready, plains(alloc, 16), lines, out),
+        SchemeName::Rs16 => run_made(alloc, telling, ready, pairs(alloc, 16), lines, out),
+        SchemeName::Rs512 => run_made(alloc, telling, ready, pairs(alloc, 512), lines, out),
+        SchemeName::Coset16 => run_made(alloc, telling, ready, cosets(alloc, 16), lines, out),
+        SchemeName::Coset512 => run_made(alloc, telling, ready, cosets(alloc, 512), lines, out),
+        SchemeName::Flip16 => run_made(alloc, telling, ready, flips(alloc, 16), lines, out),
+        SchemeName::Flip512 => run_made(alloc, telling, ready, flips(alloc, 512), lines, out),
+        SchemeName::Ham16 => run_made(alloc, telling, ready, sevens(alloc, 16), lines, out),
+        SchemeName::Ham512 => run_made(alloc, telling, ready, sevens(alloc, 512), lines, out),
+    }
+}
+
+/// Plays all lines on a die with no charged cell.
+fn run_blank<D: Die + Drop, L: Lines, O: Sink>(
+    alloc: Global,
+    telling: Telling,
+    ready: Ready<D>,
     lines: &mut L,
     out: &mut O,
 ) -> Result<(), Stop>
-    ensures done { OnOk result (RunsFrom L.gives L.ended telling (Mounts (numbers_named blank.head) (D.state blank.die))
+    requires { IsBlankDie (shape_of ready.head) (D.state ready.die) }
+    ensures done { OnOk result (RunsFrom L.gives L.ended telling (Mounts (numbers_named ready.head) (D.state ready.die)) AnyDie
         lines.old lines.new (O.log out.old) (O.log out.new)) }
-    ensures stops { IfErr result (λ why. StopsFrom L.gives L.ended L.stops telling (Mounts (numbers_named blank.head) (D.state blank.die)) why
+    ensures stops { IfErr result (λ why. StopsFrom L.gives L.ended L.stops telling (Mounts (numbers_named ready.head) (D.state ready.die)) why
         lines.old lines.new (O.log out.old) (O.log out.new)) }
 {
-    match blank.head.scheme {
-        SchemeName::Plain16 => run_made(alloc, telling, blank, plains(alloc, 16), lines, out),
-        SchemeName::Rs16 => run_made(alloc, telling, blank, pairs(alloc, 16), lines, out),
-        SchemeName::Rs512 => run_made(alloc, telling, blank, pairs(alloc, 512), lines, out),
-        SchemeName::Coset16 => run_made(alloc, telling, blank, cosets(alloc, 16), lines, out),
-        SchemeName::Coset512 => run_made(alloc, telling, blank, cosets(alloc, 512), lines, out),
-        SchemeName::Flip16 => run_made(alloc, telling, blank, flips(alloc, 16), lines, out),
-        SchemeName::Flip512 => run_made(alloc, telling, blank, flips(alloc, 512), lines, out),
-        SchemeName::Ham16 => run_made(alloc, telling, blank, sevens(alloc, 16), lines, out),
-        SchemeName::Ham512 => run_made(alloc, telling, blank, sevens(alloc, 512), lines, out),
+    match run_on(alloc, telling, ready, lines, out) {
+        Ok(_) => Ok(()),
+        Err(NotRun::Stopped(why)) => Err(why),
+        Err(NotRun::NoSpare) => unreachable!(),
     }
 }
 
@@ -131,7 +161,7 @@ pub fn run_on<D: Die + Drop, L: Lines, O: Sink>(
 ///
 /// # Errors
 ///
-/// As `run_on`, or want of memory for the die.
+/// As `run_on`, or want of memory for the die; never `NoSpare`.
 pub fn run_asked<L: Lines, O: Sink>(
     alloc: Global,
     asked: &AskedDie,
@@ -140,27 +170,27 @@ pub fn run_asked<L: Lines, O: Sink>(
     out: &mut O,
 ) -> Result<(), Stop>
     requires { IsDieWithin asked.now }
-    ensures done { OnOk result (RunsFrom L.gives L.ended telling (IsBlankDevice asked.now) lines.old lines.new (O.log out.old) (O.log out.new)) }
+    ensures done { OnOk result (RunsFrom L.gives L.ended telling (IsBlankDevice asked.now) AnyDie lines.old lines.new (O.log out.old) (O.log out.new)) }
     ensures stops { IfErr result (λ why. StopsFrom L.gives L.ended L.stops telling (IsBlankDevice asked.now) why lines.old lines.new (O.log out.old) (O.log out.new)) }
 {
     match asked.kind {
         DieKind::Plain => {
-            let Ok(blank) = plain(alloc, asked.head) else {
+            let Ok(ready) = plain(alloc, asked.head) else {
                 return Err(Stop::OutOfMemory);
             };
-            run_on(alloc, telling, blank, lines, out)
+            run_blank(alloc, telling, ready, lines, out)
         }
         DieKind::Worn { reserve, bad } => {
-            let Ok(blank) = worn(alloc, asked.head, reserve, bad) else {
+            let Ok(ready) = worn(alloc, asked.head, reserve, bad) else {
                 return Err(Stop::OutOfMemory);
             };
-            run_on(alloc, telling, blank, lines, out)
+            run_blank(alloc, telling, ready, lines, out)
         }
         DieKind::Pair => {
-            let Ok(blank) = pair(alloc, asked.head) else {
+            let Ok(ready) = pair(alloc, asked.head) else {
                 return Err(Stop::OutOfMemory);
             };
-            run_on(alloc, telling, blank, lines, out)
+            run_blank(alloc, telling, ready, lines, out)
         }
     }
 }

@@ -10,6 +10,8 @@ pub enum Status {
     BadWords = 2,
     /// A line is outside the grammar.
     BadLine = 3,
+    /// The image is refused, or each block of its die has a live record.
+    BadImage = 4,
     /// The source of the lines failed.
     ReadFault = 5,
     /// The sink failed.
@@ -29,7 +31,7 @@ impl Status {
     }
 }
 
-/// Why not all lines were played.
+/// Why a run of lines stopped.
 #[derive(Clone, Copy, Debug, PartialEq, Eq)]
 pub enum Stop {
     /// No further line came, where more may have been wanted.
@@ -42,10 +44,34 @@ pub enum Stop {
     OutOfMemory,
 }
 
-/// How a call ended, and its input back, so that what was taken of it can be told.
+/// Why no run of lines came to its end.
+#[derive(Clone, Copy, Debug, PartialEq, Eq)]
+pub enum NotRun {
+    /// Each block of the die has a live record: nothing was called.
+    NoSpare,
+    Stopped(Stop),
+}
+
+/// How lines ended that were not all played and told.
+#[derive(Clone, Copy, Debug, PartialEq, Eq)]
+pub enum Halt {
+    /// Each block of the die has a live record: nothing was called.
+    NoSpare,
+    /// The run stopped, and the call ends so.
+    Ended(Status),
+}
+
+/// What a call reads: the lines, and the image of the die, where they are asked for.
 #[derive(Drop)]
-pub struct Outcome<I: Drop> {
+pub struct Sources<I: Drop, M: Drop> {
+    pub lines: I,
+    pub image: M,
+}
+
+/// How a call ended, and its sources back, so that what was taken of them can be told.
+#[derive(Drop)]
+pub struct Outcome<I: Drop, M: Drop> {
     /// The number of the status.
     pub status: u8,
-    pub input: I,
+    pub from: Sources<I, M>,
 }

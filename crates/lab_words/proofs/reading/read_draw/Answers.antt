@@ -3,9 +3,9 @@ use Rattle.std.proofs.Common.{◌≡◌, ℕ, ◌-◌, List, ◌∷◌, length, 
 use Rattle.std.specs.Prelude.{codes, decimal}
 use Rattle.std.proofs.lemmas.List.{length-map}
 use Rattle.lab_words.specs.declared.asked.Asked.{Asked}
-use Rattle.lab_words.specs.declared.asked.AskedDie.{AskedDie}
+use Rattle.lab_words.specs.declared.asked.DieFrom.{DieFrom}
 use Rattle.lab_words.specs.declared.asked.LinesFrom.{LinesFrom}
-use Rattle.lab_words.specs.Orders.{voice_word, words_of, die_words, spelled_front, IsDieWithin, IsDrawnWithin, IsWithin}
+use Rattle.lab_words.specs.Orders.{voice_word, words_of, from_words, spelled_front, IsFromWithin, IsDrawnWithin, IsWithin}
 use Rattle.lab_words.proofs.Spelling.{at_some, where_found, draw_is, six_words, six_and}
 use Rattle.lab_words.proofs.reading.read_draw.Goals as goal
 
@@ -31,7 +31,7 @@ returns-in-len6-up-clause-found c =
     let front = at_some lines asked.from (λ (f : LinesFrom). IsDrawnWithin f × ((voice every : List ℕ) (rest : List (List ℕ))
     → codes "draw" ∷ voice ∷ k ∷ s ∷ t ∷ i ∷ every ∷ rest ≡ spelled_front f voice every rest)) from c.read_numbers-from.ensures.found in
     let die : read ≡ Some asked.die = at_some found asked (λ (o : Asked). read ≡ Some o.die) is order.die in
-    let named = at_some read asked.die (λ (d : AskedDie). IsDieWithin d × (behind ≡ die_words d)) die c.read_die-die.ensures.found in
+    let named = at_some read asked.die (λ (d : DieFrom). IsFromWithin d × (behind ≡ from_words d)) die c.read_die-die.ensures.found in
     let voice_is = at_some found asked (λ (o : Asked). v ≡ voice_word o.voice) is order.voice in
     let every_is = at_some found asked (λ (o : Asked). e ≡ decimal o.every) is order.every in (
       at_some found asked (λ (o : Asked). IsWithin o) is order.within,

@@ -3,10 +3,10 @@ use Rattle.std.proofs.Common.{◌≡◌, ℕ, ◌-◌, List, ◌∷◌, length, 
 use Rattle.std.specs.Prelude.{codes, decimal}
 use Rattle.std.proofs.lemmas.List.{length-map}
 use Rattle.lab_words.specs.declared.asked.Asked.{Asked}
-use Rattle.lab_words.specs.declared.asked.AskedDie.{AskedDie}
+use Rattle.lab_words.specs.declared.asked.DieFrom.{DieFrom}
 use Rattle.lab_words.specs.declared.asked.LinesFrom.{LinesFrom}
 use Rattle.lab_words.specs.declared.asked.LinesFrom.TheVariants.{Stream}
-use Rattle.lab_words.specs.Orders.{voice_word, words_of, die_words, IsDieWithin, IsWithin}
+use Rattle.lab_words.specs.Orders.{voice_word, words_of, from_words, IsFromWithin, IsWithin}
 use Rattle.lab_words.proofs.Spelling.{at_some, where_found, some_same, play_is, play_spelled, three_words, two_and}
 use Rattle.lab_words.proofs.reading.read_play.Goals as goal
 
@@ -23,7 +23,7 @@ returns-in-len2-up-clause-found c =
     where_found found (λ (asked : Asked). IsWithin asked × (codes "play" ∷ map (string_bytes {Z = Global}) c.args.words.now ≡ words_of asked)) (λ asked is.
     let from : Some Stream ≡ Some asked.from = at_some found asked (λ (o : Asked). Some Stream ≡ Some o.from) is order.from in
     let die : read ≡ Some asked.die = at_some found asked (λ (o : Asked). read ≡ Some o.die) is order.die in
-    let named = at_some read asked.die (λ (d : AskedDie). IsDieWithin d × (behind ≡ die_words d)) die c.read_die-die.ensures.found in (
+    let named = at_some read asked.die (λ (d : DieFrom). IsFromWithin d × (behind ≡ from_words d)) die c.read_die-die.ensures.found in (
       at_some found asked (λ (o : Asked). IsWithin o) is order.within,
       sym (ap (λ (words : List (List ℕ)). codes "play" ∷ words) spelled) ∙ play_spelled v e behind asked (record {
         from = sym (some_same Stream asked.from from);

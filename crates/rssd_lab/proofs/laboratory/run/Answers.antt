@@ -13,15 +13,17 @@ returns-in-Ok-tell_at_end-clause-done g c =
     let device = g.F.Device.device in
     let score = c.first_score-score.result in
     let head : log c.give_last.new.sink ≡ log c.args.out.now ++ handed (run_head ∷ []) = at_ok c.give_last.result _ (sym c.is_err.ensures.value ∙ c.if-is_err.false) c.give_last.ensures.done in
-    let last : At g.row.L.Denot = state_at c.play_all.new.lines (device c.play_all.new.ftl) c.play_all.new.score (log c.play_all.new.out) in
-    record {
-      score = score;
-      first = c.first_score-score.ensures;
-      last = last;
-      plays = subst (λ (l : List Event). PlaysAll g.L.Lines.gives g.L.Lines.ended (device c.args.ftl.now).numbers c.args.telling (state_at c.args.lines.now (device c.args.ftl.now) score l) last) head c.in-Ok.ensures.done;
-      lines_last = refl;
-      tells = c.in-Ok-tell_at_end.ensures.done;
-    }
+    let last : At g.row.L.Denot = state_at c.play_all.new.lines (device c.play_all.new.ftl) c.play_all.new.score (log c.play_all.new.out) in (
+      record {
+        score = score;
+        first = c.first_score-score.ensures;
+        last = last;
+        plays = subst (λ (l : List Event). PlaysAll g.L.Lines.gives g.L.Lines.ended (device c.args.ftl.now).numbers c.args.telling (state_at c.args.lines.now (device c.args.ftl.now) score l) last) head c.in-Ok.ensures.done;
+        lines_last = refl;
+        tells = c.in-Ok-tell_at_end.ensures.done;
+      },
+      refl,
+    )
 
 pub returns-then-is_err-clause-stops : goal.returns-then-is_err-clause-stops
 returns-then-is_err-clause-stops g c =

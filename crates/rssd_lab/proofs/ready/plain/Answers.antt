@@ -1,12 +1,9 @@
--- A new die in memory is blank, and no mount of it fails.
+-- No mount of a new die in memory fails.
 use Rattle.mem_die.specs.MemState.{mem_state}
 use Rattle.die_image.specs.Image.{shape_of}
 use Rattle.rssd_run.specs.Heads.{numbers_named}
-use Rattle.rssd_lab.proofs.Starts.{new_blank, new_mounts}
-use Rattle.rssd_lab.proofs.blank.plain.Goals as goal
-
-pub invariant_of-result-clause-blank : goal.invariant_of-result-clause-blank
-invariant_of-result-clause-blank c = new_blank (shape_of c.args.head) (mem_state c.in_ok-die.die) c.in_ok-die.ensures
+use Rattle.rssd_lab.proofs.Starts.{new_mounts}
+use Rattle.rssd_lab.proofs.ready.plain.Goals as goal
 
 pub invariant_of-result-clause-mounts : goal.invariant_of-result-clause-mounts
 invariant_of-result-clause-mounts c = λ new fails. new_mounts (shape_of c.args.head) (numbers_named c.args.head) (mem_state c.in_ok-die.die) (mem_state new) c.in_ok-die.ensures fails

@@ -1,4 +1,4 @@
--- A die with reserve blocks over a blank one is blank, and no mount of it fails.
+-- A die with reserve blocks over a blank one has the shape of its head, and no mount of it fails.
 use Rattle.std.proofs.Common.{refl}
 use Rattle.cell_die.specs.DieState.{DieState}
 use Rattle.mem_die.specs.WornState.{worn_state}
@@ -7,12 +7,12 @@ use Rattle.spare_die.specs.Tallies.{own_of}
 use Rattle.die_image.specs.Image.{shape_of}
 use Rattle.rssd_run.specs.Heads.{numbers_named}
 use Rattle.rssd_run.proofs.WornPlays.{worn_blank, worn_mounts}
-use Rattle.rssd_lab.proofs.blank.worn.Goals as goal
+use Rattle.rssd_lab.proofs.ready.worn.Goals as goal
 
-pub invariant_of-result-clause-blank : goal.invariant_of-result-clause-blank
-invariant_of-result-clause-blank c =
+pub invariant_of-result-clause-shape : goal.invariant_of-result-clause-shape
+invariant_of-result-clause-shape c =
     let spare = c.in_ok-die.die in
-    worn_blank c.args.head c.args.reserve c.args.bad c.requires.within c.requires.reserve (spare_state (worn_state spare.inner) spare.logical (own_of spare.tally)) c.in_ok-die.ensures
+    (worn_blank c.args.head c.args.reserve c.args.bad c.requires.within c.requires.reserve (spare_state (worn_state spare.inner) spare.logical (own_of spare.tally)) c.in_ok-die.ensures).same_shape
 
 pub invariant_of-result-clause-mounts : goal.invariant_of-result-clause-mounts
 invariant_of-result-clause-mounts c = λ new fails.
