@@ -36,14 +36,15 @@ _rssd() {
 }
 complete -F _rssd rssd ./rssd build/rssd
 
-# Proposes the words of a die, of which the first stands at place $1: those of a device, or of the commands `worn` and `pair`.
+# Proposes the words of a die, of which the first stands at place $1: those of a device, or of the commands `worn`, `pair` and `run`.
 _lab_die() {
     local place=$((COMP_CWORD - $1))
     case $place:${COMP_WORDS[$1]-} in
-        0:*) _rssd_words "worn pair plain16 rs16 rs512 coset16 coset512 flip16 flip512 ham16 ham512" ;;
+        0:*) _rssd_words "worn pair run plain16 rs16 rs512 coset16 coset512 flip16 flip512 ham16 ham512" ;;
         6:worn) _rssd_range "RESERVE:0..${COMP_WORDS[$1 + 3]:-2}" ;;
         7:worn) _rssd_range BAD:0..4294967295 ;;
         *:worn | *:pair) _rssd_device $(($1 + 1)) ;;
+        *:run) ;;
         *) _rssd_device "$1" ;;
     esac
 }
