@@ -6,6 +6,7 @@
 //! on all nine where it is `all`.
 #![tactic(auto)]
 
+mod by_scheme;
 mod campaign;
 mod case;
 mod charge;
@@ -13,13 +14,12 @@ mod counts;
 mod lines;
 mod rig;
 mod rows;
-mod schemes;
 mod sectors;
 mod stop;
 
+use crate::by_scheme::{NAMES, run_named};
 use crate::campaign::Share;
 use crate::counts::Counts;
-use crate::schemes::{NAMES, run_named};
 use crate::stop::Stop;
 use anyhow::{Context, Result, bail};
 use std::env;

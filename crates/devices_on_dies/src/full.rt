@@ -6,7 +6,7 @@
 //! one of which has one record that is no longer live, and collects the others of that block; each collection but the first erases
 //! the Spare before. With as many sectors as a block has pages there is room for second writes.
 
-use crate::schemes::{cosets, flips, pairs, plains, sevens};
+use schemes::{cosets, flips, pairs, plains, sevens};
 use crate::start::{mounted, started};
 use mem_die::MemDie;
 use rssd_core::{Counts, Device, Ftl, Plan, PowerDevice};
@@ -156,7 +156,7 @@ fn with_room<C: Scheme + Drop>(
 
 #[test]
 fn plain16_is_written_at_its_limit(rt: HostRuntime) -> Result<(), Fail> {
-    at_the_limit(&rt, rt.alloc(), plains(rt.alloc())?, 4)
+    at_the_limit(&rt, rt.alloc(), plains(rt.alloc(), 16)?, 4)
 }
 
 #[test]
@@ -212,7 +212,7 @@ fn two_and_three_writes_of_a_page_are_never_declined(rt: HostRuntime) -> Result<
 #[test]
 fn plain_and_coset_units_are_written_over_where_they_can_be(rt: HostRuntime) -> Result<(), Fail> {
     let alloc = rt.alloc();
-    assert!(rt; 0 < with_room(&rt, alloc, plains(alloc)?, 4)?);
+    assert!(rt; 0 < with_room(&rt, alloc, plains(alloc, 16)?, 4)?);
     assert!(rt; 0 < with_room(&rt, alloc, cosets(alloc, 16)?, 4)?);
     assert!(rt; 0 < with_room(&rt, alloc, cosets(alloc, 512)?, 2)?);
     with_room(&rt, alloc, flips(alloc, 16)?, 4)?;

@@ -21,6 +21,5 @@ mod moves;
 #[cfg(test)]
 mod placed;
 #[cfg(test)]
-mod schemes;
 #[cfg(test)]
 mod start;

@@ -2,7 +2,7 @@
 //! blocks of two pages, and the one of a thousand writes a die of three. The first bytes of a page are what the codes make
 //! of the sectors written there, worked out by their tables.
 
-use crate::schemes::{cosets, pairs, plains, sevens};
+use schemes::{cosets, pairs, plains, sevens};
 use crate::start::started;
 use cell_die::Die;
 use mem_die::MemDie;
@@ -164,7 +164,7 @@ fn a_second_write_goes_over_the_first_page(rt: HostRuntime) -> Result<(), Fail> 
 
 #[test]
 fn a_declined_write_passes_its_unit_and_goes_to_a_clean_page(rt: HostRuntime) -> Result<(), Fail> {
-    let mut ftl = started(&rt, rt.alloc(), plains(rt.alloc())?, 4, 2, PLAN)?;
+    let mut ftl = started(&rt, rt.alloc(), plains(rt.alloc(), 16)?, 4, 2, PLAN)?;
     let writes = [
         (0, 1, Placed::First),
         (0, 1, Placed::First),

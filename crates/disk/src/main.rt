@@ -1,8 +1,8 @@
 //! A disk in a file: the file is a die image, and the disk is served over standard input and output by the NBD protocol.
 #![tactic(auto)]
 
+mod by_scheme;
 mod files;
-mod schemes;
 mod status;
 mod words;
 
@@ -22,7 +22,7 @@ fn answer(rt: &HostRuntime) -> Result<Status, Status> {
         files::make(rt, name.as_str(), &head)?;
     }
     let (head, die) = files::open(rt, name.as_str(), sync, cut)?;
-    schemes::serve_with(rt, &head, die)
+    by_scheme::serve_with(rt, &head, die)
 }
 
 fn main(rt: HostRuntime) -> ExitCode {

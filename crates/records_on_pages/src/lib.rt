@@ -11,6 +11,6 @@ mod live;
 #[cfg(test)]
 mod page_zero;
 #[cfg(test)]
-mod schemes;
+mod sectors;
 #[cfg(test)]
 mod writes;

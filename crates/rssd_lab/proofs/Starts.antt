@@ -14,9 +14,10 @@ use Rattle.rssd_core.specs.Mount.{Fits, Mounts, MountFails, Refuses, EveryBlockL
 use Rattle.rssd_words.specs.Commands.{IsWithin}
 use Rattle.rssd_run.specs.Heads.{numbers_named, plan_of}
 use Rattle.rssd_run.specs.PlayRuns.{IsBlankDie}
-use Rattle.rssd_run.specs.Schemes.{meaning_named, HasRow}
+use Rattle.schemes.specs.Schemes.{meaning_named, HasRow}
 use Rattle.rssd_run.proofs.BlankCells.{IsBlank, blank_counts}
-use Rattle.rssd_run.proofs.HeadLimits.{head_limits, head_fits, named_row}
+use Rattle.rssd_run.proofs.HeadLimits.{head_limits, head_fits}
+use Rattle.schemes.proofs.Rows.{named_row}
 use Rattle.lab_words.specs.declared.asked.AskedDie.{AskedDie}
 use Rattle.lab_words.specs.declared.asked.DieKind.{DieKind}
 use Rattle.lab_words.specs.declared.asked.DieKind.TheVariants.{Plain, Worn, Pair}

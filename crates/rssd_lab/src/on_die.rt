@@ -6,7 +6,7 @@ ghost use Rattle.rssd_core.specs.Mount.{Mounts};
 ghost use Rattle.lab_words.specs.Orders.{IsDieWithin};
 ghost use Rattle.rssd_run.specs.Heads.{numbers_named};
 ghost use Rattle.rssd_run.specs.PlayRuns.{IsBlankDie};
-ghost use Rattle.rssd_run.specs.Schemes.{meaning_named};
+ghost use Rattle.schemes.specs.Schemes.{meaning_named};
 ghost use Rattle.rssd_lab.specs.Dies.{IsBlankDevice};
 ghost use Rattle.rssd_lab.specs.Stages.{AnyDie};
 ghost use Rattle.rssd_lab.specs.Started.{RunsFrom, StopsFrom, StopsOn, RefusesMount};
@@ -23,7 +23,7 @@ use lab_words::{AskedDie, DieKind};
 use rssd_core::device::{Device, MountError, Plan};
 use rssd_core::whole::Ftl;
 use rssd_io::Sink;
-use rssd_run::run::schemes::{cosets, flips, pairs, plains, sevens};
+use schemes::{cosets, flips, pairs, plains, sevens};
 use std::alloc::{AllocError, Global};
 use striped::Scheme;
 
@@ -110,7 +110,7 @@ fn run_made<D: Die + Drop, C: Scheme + Drop, L: Lines, O: Sink>(
 ///
 /// `NoSpare` where each block of the die has a live record, or want of memory for the device, before anything is given; the end of
 /// the lines before all were played; a line that only a session takes; or a fault of the sink.
-#[tactic(auto, unfolding(rssd_run::specs::Schemes::meaning_named, die_image::specs::Schemes::row_of))]
+#[tactic(auto, unfolding(schemes::specs::Schemes::meaning_named, die_image::specs::Schemes::row_of))]
 pub fn run_on<D: Die + Drop, L: Lines, O: Sink>(
     alloc: Global,
     telling: Telling,

@@ -29,12 +29,13 @@ use Rattle.rssd_run.specs.DieRuns.{sectors_on}
 use Rattle.rssd_run.specs.Heads.{numbers_named}
 use Rattle.rssd_run.specs.ImageRuns.{HasCells, RunsImage}
 use Rattle.rssd_run.specs.Run.{IsRun}
-use Rattle.rssd_run.specs.Schemes.{meaning_named, HasRow}
+use Rattle.schemes.specs.Schemes.{meaning_named, HasRow}
 use Rattle.rssd_run.specs.Statuses.{Input, Output, taken}
 use Rattle.rssd_run.specs.Top.{SaysAudit}
 use Rattle.rssd_run.specs.View.{View, Event}
 use Rattle.rssd_run.proofs.BlankCells.{IsBlank, blank_sound}
-use Rattle.rssd_run.proofs.HeadLimits.{head_limits, named_row}
+use Rattle.rssd_run.proofs.HeadLimits.{head_limits}
+use Rattle.schemes.proofs.Rows.{named_row}
 
 -- ---- the numbers of a head
 

@@ -12,12 +12,13 @@ use Rattle.rssd_io.specs.Event.{Event as Act}
 use Rattle.rssd_script.specs.declared.lines.Line.{Line}
 use Rattle.rssd_run.specs.ArrayWithCuts.{On}
 use Rattle.rssd_run.specs.View.{View}
-use Rattle.rssd_run.specs.Schemes.{meaning_named, HasRow}
+use Rattle.schemes.specs.Schemes.{meaning_named, HasRow}
 use Rattle.rssd_run.specs.Heads.{numbers_named}
 use Rattle.rssd_run.specs.DieRuns.{IsReady, IsStart, RunsTo, RunsOn, RunsInPart, RunsFrontOn}
 use Rattle.rssd_run.specs.Replays.{IsBlankStart, Replays, ReplaysFront}
 use Rattle.rssd_run.proofs.BlankCells.{IsBlank, no_header_at, blank_counts, blank_sound, blank_stored}
-use Rattle.rssd_run.proofs.HeadLimits.{head_limits, named_row}
+use Rattle.rssd_run.proofs.HeadLimits.{head_limits}
+use Rattle.schemes.proofs.Rows.{named_row}
 
 -- a new die of a head that is within the limits
 pub record IsFresh (head : ImageHead) (die : DieState) : Type 0 where

@@ -22,7 +22,7 @@ use Rattle.rssd_run.specs.View.{View}
 use Rattle.rssd_run.specs.Held.{Tallies, plus, on}
 use Rattle.rssd_run.specs.Steps.{ArrayIs}
 use Rattle.rssd_run.specs.Run.{RunsSession, CutsOffSession, CalmFor}
-use Rattle.rssd_run.specs.Schemes.{meaning_named, HasRow}
+use Rattle.schemes.specs.Schemes.{meaning_named, HasRow}
 use Rattle.rssd_run.specs.Shows.{Holding, Mounted, Closed, Nothing, SessionValue, ShowsHolding, Starts, HasNumbers, HasDie, KeepsSession}
 use Rattle.rssd_run.specs.Step.{KeepsDie}
 use Rattle.rssd_run.specs.Exchanges.{AnswersAll, AnswersFront}
@@ -31,7 +31,8 @@ use Rattle.rssd_run.proofs.Parts.{keeps_more}
 use Rattle.rssd_run.proofs.Still.{keeps_die}
 use Rattle.rssd_run.specs.Heads.{plan_of, numbers_named}
 use Rattle.rssd_run.specs.DieRuns.{IsReady, IsStart, StartsOn, sectors_on, RunsOn, RunsFrontOn}
-use Rattle.rssd_run.proofs.HeadLimits.{head_fits, named_row}
+use Rattle.rssd_run.proofs.HeadLimits.{head_fits}
+use Rattle.schemes.proofs.Rows.{named_row}
 
 -- a die of a head that is within the limits, and a scheme of its meaning
 pub record IsGiven (head : ImageHead) (meaning : Meaning) (die : DieState) : Type 0 where

@@ -9,7 +9,8 @@ use Rattle.die_image.specs.declared.scheme.SchemeName.TheVariants.{Plain16, Rs16
 use Rattle.die_image.specs.Schemes.{row_of}
 use Rattle.die_image.specs.Image.{is_within_limits, die_bytes, shape_of}
 use Rattle.rssd_core.specs.Mount.{Fits, IsServed}
-use Rattle.rssd_run.specs.Schemes.{meaning_named, plain_meaning, pair_meaning, coset_meaning, flip_meaning, seven_meaning, HasRow}
+use Rattle.schemes.specs.Schemes.{meaning_named, HasRow}
+use Rattle.schemes.proofs.Rows.{named_row}
 use Rattle.rssd_run.specs.Heads.{plan_of}
 
 all_parts : (a b c d e f g h : Bool) → (a && b && c && d && e && f && g && h) ≡ true
@@ -23,19 +24,6 @@ all_parts a b c d e f g h all =
     let to_b = and_parts (a && b) c to_c.0 in
     let to_a = and_parts a b to_b.0 in
     (to_a.0, to_a.1, to_b.1, to_c.1, to_d.1, to_e.1, to_f.1, to_g.1)
-
--- each scheme has the numbers of its row
-pub named_row : (name : SchemeName) → HasRow name (meaning_named name)
-unfolding meaning_named plain_meaning pair_meaning coset_meaning flip_meaning seven_meaning row_of
-named_row Plain16 = record { sector_bytes = refl; page_bytes = refl; span = refl; generations = refl }
-named_row Rs16 = record { sector_bytes = refl; page_bytes = refl; span = refl; generations = refl }
-named_row Rs512 = record { sector_bytes = refl; page_bytes = refl; span = refl; generations = refl }
-named_row Coset16 = record { sector_bytes = refl; page_bytes = refl; span = refl; generations = refl }
-named_row Coset512 = record { sector_bytes = refl; page_bytes = refl; span = refl; generations = refl }
-named_row Flip16 = record { sector_bytes = refl; page_bytes = refl; span = refl; generations = refl }
-named_row Flip512 = record { sector_bytes = refl; page_bytes = refl; span = refl; generations = refl }
-named_row Ham16 = record { sector_bytes = refl; page_bytes = refl; span = refl; generations = refl }
-named_row Ham512 = record { sector_bytes = refl; page_bytes = refl; span = refl; generations = refl }
 
 -- the sizes of a row are served
 record RowSizes (name : SchemeName) : Type 0 where

@@ -13,7 +13,7 @@ use Rattle.rssd_core.specs.DeviceValue.{Numbers, DeviceValue, rows_of}
 use Rattle.rssd_core.specs.Mount.{Fits, Mounts, Refuses, MountFails, EveryBlockLive, numbers_of}
 use Rattle.rssd_run.specs.ArrayWithCuts.{On}
 use Rattle.rssd_run.specs.View.{View, Event}
-use Rattle.rssd_run.specs.Schemes.{meaning_named, HasRow}
+use Rattle.schemes.specs.Schemes.{meaning_named, HasRow}
 use Rattle.rssd_run.specs.Heads.{numbers_named, plan_of}
 use Rattle.rssd_run.specs.Held.{Tallies, on}
 use Rattle.rssd_core.specs.Outcomes.{TrueWhileRunning}
@@ -23,7 +23,8 @@ use Rattle.rssd_run.specs.Shows.{Mounted, ShowsHolding}
 use Rattle.rssd_run.specs.PlayRuns.{IsBlankDie, IsPlayStart, PlayOf, PlayCutOff, PlaysFrom, PlaysFrontFrom, PlaysLines, CutsOffPlay}
 use Rattle.rssd_run.proofs.BlankCells.{IsBlank, no_header_at, blank_counts, blank_sound, blank_stored}
 use Rattle.rssd_run.proofs.DieStart.{none_added, runs}
-use Rattle.rssd_run.proofs.HeadLimits.{head_limits, head_fits, named_row}
+use Rattle.rssd_run.proofs.HeadLimits.{head_limits, head_fits}
+use Rattle.schemes.proofs.Rows.{named_row}
 use Rattle.rssd_run.proofs.Plays.{Stands}
 
 -- a blank die of a head that is within the limits

@@ -14,7 +14,8 @@ use Rattle.rssd_run.specs.Serves.{IsQueueOf}
 use Rattle.rssd_run.specs.QueueActs.{Place, place, ActsSession, CutsOffActs}
 use Rattle.rssd_run.specs.QueueRuns.{first_place, Queues, QueuesFront}
 use Rattle.rssd_run.proofs.BlankStart.{IsFresh, blank_start}
-use Rattle.rssd_run.proofs.HeadLimits.{named_row, sector_bytes_named}
+use Rattle.rssd_run.proofs.HeadLimits.{sector_bytes_named}
+use Rattle.schemes.proofs.Rows.{named_row}
 
 -- a sector has some bytes, and not more than a queue takes
 pub some_bytes : (head : ImageHead) (n : ℕ) → n ≡ (row_of head.scheme).sector_bytes → (1 ≤ n) × (n ≤ 512)

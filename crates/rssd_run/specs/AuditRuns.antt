@@ -9,7 +9,7 @@ use Rattle.page_codec.specs.Sound.{IsSound}
 use Rattle.rssd_script.specs.Text.{hex_or_dash}
 use Rattle.rssd_run.specs.Statuses.{Input, Output, Took, TookPart, GaveLine}
 use Rattle.rssd_run.specs.ReadImage.{ReadsImage}
-use Rattle.rssd_run.specs.Schemes.{meaning_named}
+use Rattle.schemes.specs.Schemes.{meaning_named}
 
 -- the verdict on the cells of a head's die, by the head's scheme, and the sectors that are told with it
 abbrev pub IsAuditOf : ImageHead → List ℕ → Verdict → List (ℕ × List ℕ) → Type 0

@@ -5,7 +5,7 @@ use Rattle.die_image.specs.Image.{shape_of}
 use Rattle.rssd_core.specs.declared.device.Plan.{Plan}
 use Rattle.rssd_core.specs.DeviceValue.{Numbers}
 use Rattle.rssd_core.specs.Mount.{numbers_of}
-use Rattle.rssd_run.specs.Schemes.{meaning_named}
+use Rattle.schemes.specs.Schemes.{meaning_named}
 
 -- the plan of a head's device
 abbrev pub plan_of : ImageHead → Plan

@@ -19,7 +19,6 @@ pub mod Exchanges
 pub mod ReadScript
 pub mod ReadImage
 pub mod GiveImage
-pub mod Schemes
 pub mod Heads
 pub mod DieRuns
 pub mod Replays

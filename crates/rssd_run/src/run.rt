@@ -20,7 +20,6 @@ pub mod queue_lines;
 pub mod queue_run;
 pub mod replay;
 pub mod reuse;
-pub mod schemes;
 pub mod script;
 pub mod served;
 pub mod session;

@@ -19,13 +19,13 @@ ghost use Rattle.rssd_run.specs.ImageRuns.{HasCells, RunsImage};
 ghost use Rattle.rssd_run.specs.MakeRuns.{Makes};
 ghost use Rattle.rssd_run.specs.ReadImage.{TakesImage};
 ghost use Rattle.rssd_run.specs.Run.{CalmFor};
-ghost use Rattle.rssd_run.specs.Schemes.{meaning_named};
+ghost use Rattle.schemes.specs.Schemes.{meaning_named};
 ghost use Rattle.rssd_run.specs.Statuses.{input, output, Input as Given, Output as Taken};
 ghost use Rattle.rssd_run.specs.Top.{SaysAudit};
 
 use crate::refusal::{refuse, refuse_image};
 use crate::run::image::{ImageReadError, read_image};
-use crate::run::schemes::{cosets, flips, pairs, plains, sevens};
+use schemes::{cosets, flips, pairs, plains, sevens};
 use crate::status::Status;
 use arrayvec::ArrayVec;
 use die_image::{ImageHead, ImageReader, SchemeName};
@@ -140,7 +140,7 @@ fn audit_made<C: Scheme + Drop>(
 }
 
 /// Judges the cells of a head's die by the scheme of the head, and tells the sectors that they hold where they are sound.
-#[tactic(auto, unfolding(crate::specs::Schemes::meaning_named, die_image::specs::Schemes::row_of))]
+#[tactic(auto, unfolding(schemes::specs::Schemes::meaning_named, die_image::specs::Schemes::row_of))]
 pub fn audit_image(
     alloc: Global,
     head: &ImageHead,

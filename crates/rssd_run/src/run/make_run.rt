@@ -7,12 +7,12 @@ ghost use Rattle.rssd_io.specs.Pieces.{Gives, StopsAt};
 ghost use Rattle.rssd_run.specs.Calm.{IsCalm};
 ghost use Rattle.rssd_run.specs.MakeRuns.{Makes, TellsMade, SaysMake};
 ghost use Rattle.rssd_run.specs.Statuses.{output};
-ghost use Rattle.rssd_run.specs.Schemes.{meaning_named};
+ghost use Rattle.schemes.specs.Schemes.{meaning_named};
 
 use crate::run::Stepping;
 use crate::run::on_die::{RunError, start};
 use crate::run::replay::blank_die;
-use crate::run::schemes::{cosets, flips, pairs, plains, sevens};
+use schemes::{cosets, flips, pairs, plains, sevens};
 use crate::run::session::Session;
 use crate::run::workload::{Seeded, held_text, read_held, step_workload};
 use crate::status::Status;
@@ -98,7 +98,7 @@ fn make_made<C: Scheme + Drop, O: Sink>(
 /// # Errors
 ///
 /// Want of memory, before anything is given; or a fault of the sink. A blank die has a spare block.
-#[tactic(auto, unfolding(crate::specs::Schemes::meaning_named, die_image::specs::Schemes::row_of))]
+#[tactic(auto, unfolding(schemes::specs::Schemes::meaning_named, die_image::specs::Schemes::row_of))]
 pub fn make_run<O: Sink>(
     alloc: Global,
     head: &ImageHead,

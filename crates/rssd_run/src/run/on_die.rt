@@ -8,11 +8,11 @@ ghost use Rattle.rssd_core.specs.Mount.{EveryBlockLive};
 ghost use Rattle.rssd_io.specs.Event.{HasFailed};
 ghost use Rattle.rssd_run.specs.DieRuns.{IsReady, StartsOn, RunsOn, RunsFrontOn};
 ghost use Rattle.rssd_run.specs.Heads.{numbers_named};
-ghost use Rattle.rssd_run.specs.Schemes.{meaning_named};
+ghost use Rattle.schemes.specs.Schemes.{meaning_named};
 ghost use Rattle.rssd_run.specs.Shows.{CanStep, session_of};
 
 use crate::run::run_lines;
-use crate::run::schemes::{cosets, flips, pairs, plains, sevens};
+use schemes::{cosets, flips, pairs, plains, sevens};
 use crate::run::session::Session;
 use cell_die::Shape;
 use die_image::{ImageHead, SchemeName};
@@ -133,7 +133,7 @@ fn run_made<C: Scheme + Drop, O: Sink>(
 /// # Errors
 ///
 /// Want of memory, or `NoSpare` where every block has a live record, before anything is given; or a fault of the sink.
-#[tactic(auto, unfolding(crate::specs::Schemes::meaning_named, die_image::specs::Schemes::row_of))]
+#[tactic(auto, unfolding(schemes::specs::Schemes::meaning_named, die_image::specs::Schemes::row_of))]
 pub fn run_on<O: Sink>(
     alloc: Global,
     head: &ImageHead,

@@ -8,11 +8,11 @@ ghost use Rattle.rssd_run.specs.Headline.{ChargeNeverFalls};
 ghost use Rattle.rssd_run.specs.Heads.{numbers_named};
 ghost use Rattle.rssd_run.specs.Played.{IsPlayed, Plays, PlaysQuiet};
 ghost use Rattle.rssd_run.specs.PlayRuns.{IsBlankDie, IsPlayStart, LeavesDie, PlaysLines, CutsOffPlay, PlaysFrom, PlaysFrontFrom, IsPlay, KeepsPlayHeadline};
-ghost use Rattle.rssd_run.specs.Schemes.{meaning_named};
+ghost use Rattle.schemes.specs.Schemes.{meaning_named};
 ghost use Rattle.rssd_run.specs.View.{View, Event};
 
 use crate::run::line::play;
-use crate::run::schemes::{cosets, flips, pairs, plains, sevens};
+use schemes::{cosets, flips, pairs, plains, sevens};
 use cell_die::Die;
 use die_image::{ImageHead, SchemeName};
 use rssd_core::device::{Device, MountError, Plan};
@@ -150,7 +150,7 @@ fn play_made<D: Die + Drop, C: Scheme + Drop, O: Sink>(
 /// # Errors
 ///
 /// Want of memory, before anything is given; or a fault of the sink.
-#[tactic(auto, unfolding(crate::specs::Schemes::meaning_named, die_image::specs::Schemes::row_of))]
+#[tactic(auto, unfolding(schemes::specs::Schemes::meaning_named, die_image::specs::Schemes::row_of))]
 pub fn play_on<D: Die + Drop, O: Sink>(
     alloc: Global,
     head: &ImageHead,

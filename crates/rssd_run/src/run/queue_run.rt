@@ -14,7 +14,7 @@ ghost use Rattle.rssd_run.specs.QueueLaws.{ReadsTheOrder, ServesAll, ServesSoon,
 ghost use Rattle.rssd_run.specs.QueueRuns.{Queues, QueuesFront};
 ghost use Rattle.rssd_run.specs.ReadScript.{TakesScript};
 ghost use Rattle.rssd_run.specs.Run.{IsRun};
-ghost use Rattle.rssd_run.specs.Schemes.{meaning_named};
+ghost use Rattle.schemes.specs.Schemes.{meaning_named};
 ghost use Rattle.rssd_run.specs.Shows.{CanStep};
 ghost use Rattle.rssd_run.specs.Statuses.{input, output};
 ghost use Rattle.rssd_run.specs.Top.{SaysQueue};
@@ -23,7 +23,7 @@ use crate::refusal::refuse_script;
 use crate::run::on_die::{RunError, start};
 use crate::run::queue_lines::queue_lines;
 use crate::run::replay::blank_die;
-use crate::run::schemes::{cosets, flips, pairs, plains, sevens};
+use schemes::{cosets, flips, pairs, plains, sevens};
 use crate::run::script::{ReadError, read_script};
 use crate::run::session::Session;
 use crate::status::Status;
@@ -97,7 +97,7 @@ fn queue_made<C: Scheme + Drop, O: Sink>(
 /// # Errors
 ///
 /// Want of memory, before anything is given; or a fault of the sink. A blank die has a spare block.
-#[tactic(auto, unfolding(crate::specs::Schemes::meaning_named, die_image::specs::Schemes::row_of))]
+#[tactic(auto, unfolding(schemes::specs::Schemes::meaning_named, die_image::specs::Schemes::row_of))]
 fn queue_run<O: Sink>(
     alloc: Global,
     head: &ImageHead,

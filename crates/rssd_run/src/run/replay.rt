@@ -11,7 +11,7 @@ ghost use Rattle.rssd_run.specs.Calm.{is_arming, IsCalm, NeverSpends};
 ghost use Rattle.rssd_run.specs.Headline.{AllKeepHeadline, ChargeNeverFalls};
 ghost use Rattle.rssd_run.specs.Heads.{numbers_named};
 ghost use Rattle.rssd_run.specs.Replays.{Replays, ReplaysFront};
-ghost use Rattle.rssd_run.specs.Schemes.{meaning_named};
+ghost use Rattle.schemes.specs.Schemes.{meaning_named};
 ghost use Rattle.rssd_run.specs.Shows.{CanStep};
 
 use crate::run::on_die::{RunError, die_shape, run_on};

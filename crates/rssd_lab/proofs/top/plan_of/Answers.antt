@@ -1,6 +1,7 @@
 -- A head within the limits has a sector, and a scheme of the table at most 512 bytes of it.
 use Rattle.std.proofs.Common.{ℕ, ◌≤◌, sym, ◌∙◌, subst, arith}
-use Rattle.rssd_run.proofs.HeadLimits.{head_fits, named_row}
+use Rattle.rssd_run.proofs.HeadLimits.{head_fits}
+use Rattle.schemes.proofs.Rows.{named_row}
 use Rattle.rssd_lab.proofs.top.plan_of.Goals as goal
 
 pub returns-clause-sectors : goal.returns-clause-sectors

@@ -1,6 +1,6 @@
 -- A scheme that was made has the meaning of the head's, and so its sizes.
 use Rattle.std.proofs.Common.{◌≡◌, Result, Ok, IfOk, subst}
-use Rattle.rssd_run.specs.Schemes.{meaning_named}
+use Rattle.schemes.specs.Schemes.{meaning_named}
 use Rattle.rssd_run.proofs.AuditLaws.{served_named}
 use Rattle.rssd_run.proofs.run.audit_run.audit_made.Goals as goal
 

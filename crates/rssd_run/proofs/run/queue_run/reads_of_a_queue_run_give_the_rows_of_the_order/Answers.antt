@@ -5,7 +5,7 @@ use Rattle.rssd_run.specs.Heads.{numbers_named, zero_sectors}
 use Rattle.rssd_run.specs.QueueActs.{place}
 use Rattle.rssd_run.specs.QueueRuns.{first_place}
 use Rattle.rssd_run.specs.QueueLaws.{ReadsTheOrder}
-use Rattle.rssd_run.proofs.HeadLimits.{named_row}
+use Rattle.schemes.proofs.Rows.{named_row}
 use Rattle.rssd_run.proofs.QueueReads.{reads_the_order}
 use Rattle.rssd_run.proofs.run.queue_run.reads_of_a_queue_run_give_the_rows_of_the_order.Goals as goal
 

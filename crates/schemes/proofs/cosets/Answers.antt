@@ -2,8 +2,8 @@
 use Rattle.std.proofs.Common.{◌∙◌, ap, take, List, ℕ, Result, Ok, Err, IfOk}
 use Rattle.striped.specs.Layouts.{meaning_of}
 use Rattle.coset_code.specs.Code.{coset_message}
-use Rattle.rssd_run.specs.Schemes.{coset_meaning}
-use Rattle.rssd_run.proofs.run.schemes.cosets.Goals as goal
+use Rattle.schemes.specs.Schemes.{coset_meaning}
+use Rattle.schemes.proofs.cosets.Goals as goal
 
 if_ok : {T E : Type 0} (r : Result T E) (P Q : T → Type 0) → IfOk r P → ((x : T) → P x → Q x) → IfOk r Q
 if_ok (Ok x) P Q p f = f x p

@@ -1,9 +1,9 @@
 -- The table of seed 1 has the shape of the code.
 use Rattle.std.proofs.Common.{sym, ◌∙◌, subst}
 use Rattle.coset_code.specs.Code.{IsShape}
-use Rattle.rssd_run.specs.Schemes.{table_of_one}
+use Rattle.schemes.specs.Schemes.{table_of_one}
 use Rattle.coset_code.proofs.WordShapes.{columns_shape}
-use Rattle.rssd_run.proofs.run.schemes.unit_code.Goals as goal
+use Rattle.schemes.proofs.unit_code.Goals as goal
 
 pub unreachable-requires : goal.unreachable-requires
 unreachable-requires c =

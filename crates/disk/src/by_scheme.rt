@@ -7,7 +7,7 @@ use rssd_core::device::{MountError, Plan};
 use rssd_core::whole::Ftl;
 use rssd_disk::{DeviceDisk, ROOM, serve};
 use rssd_io::{StdSink, StdSource};
-use rssd_run::run::schemes::{cosets, flips, pairs, plains, sevens};
+use schemes::{cosets, flips, pairs, plains, sevens};
 use std::alloc::AllocError;
 use striped::Scheme;
 

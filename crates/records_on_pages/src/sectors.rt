@@ -2,14 +2,12 @@
 //! dumps. Two bits in three cells, three bits in seven, and coset cells over a page whose unit is
 //! else blank take any second sector; plain cells take the one whose bits are all set.
 
-use coset_code::{Columns, Coset};
-use hamming_seven::HammingSeven;
-use rivest_shamir::RivestShamir;
+use schemes::{cosets, flips, pairs, plains, sevens};
 use std::alloc::Global;
 use std::process::Abort;
 use std::test::Fail;
-use striped::{Scheme, Striped};
-use wom_code::{Carry, Flip, Plain};
+use striped::Scheme;
+use wom_code::Carry;
 
 /// The page of a sector's first write, which reads back as the sector.
 fn first_page<C: Scheme>(
@@ -63,15 +61,9 @@ fn write_twice<C: Scheme + Drop>(
     Ok(page)
 }
 
-/// The code of a unit of two pages, over the columns of seed 1.
-fn unit_code(alloc: Global) -> Result<Coset<128, 288>, Fail> {
-    Ok(Coset::new(alloc, Columns::new(alloc, 1, 288)?)?)
-}
-
 #[test]
 fn plain16_takes_all_ones_over_any_sector(rt: HostRuntime) -> Result<(), Fail> {
-    let code = Plain::<128, 128>::new();
-    let scheme = Striped::new(rt.alloc(), code, Plain::<128, 128>::new(), 16)?;
+    let scheme = plains(rt.alloc(), 16)?;
     let page = write_twice(&rt, rt.alloc(), scheme, &[0xa5; 16], &[0xff; 16])?;
     assert_eq!(rt; page.as_slice(), [0xa5; 16].as_slice());
     Ok(())
@@ -81,7 +73,7 @@ fn plain16_takes_all_ones_over_any_sector(rt: HostRuntime) -> Result<(), Fail> {
 fn the_rs16_page_of_a5_begins_with_52_02(rt: HostRuntime) -> Result<(), Fail> {
     let mut sector = [0; 16];
     sector[0] = 0xa5;
-    let scheme = Striped::new(rt.alloc(), RivestShamir::new(), RivestShamir::new(), 16)?;
+    let scheme = pairs(rt.alloc(), 16)?;
     let page = write_twice(&rt, rt.alloc(), scheme, &sector, &[0x5a; 16])?;
     let mut cells = [0; 24];
     cells[0] = 0x52;
@@ -92,7 +84,7 @@ fn the_rs16_page_of_a5_begins_with_52_02(rt: HostRuntime) -> Result<(), Fail> {
 
 #[test]
 fn rs512_takes_any_second_sector(rt: HostRuntime) -> Result<(), Fail> {
-    let scheme = Striped::new(rt.alloc(), RivestShamir::new(), RivestShamir::new(), 512)?;
+    let scheme = pairs(rt.alloc(), 512)?;
     let page = write_twice(&rt, rt.alloc(), scheme, &[0xa5; 512], &[0x5a; 512])?;
     assert_eq!(rt; page.len(), 768);
     Ok(())
@@ -102,8 +94,7 @@ fn rs512_takes_any_second_sector(rt: HostRuntime) -> Result<(), Fail> {
 fn the_ham16_page_of_a5_begins_with_10_84(rt: HostRuntime) -> Result<(), Fail> {
     let mut sector = [0; 16];
     sector[0] = 0xa5;
-    let code = HammingSeven::new();
-    let scheme = Striped::with_generations(rt.alloc(), code, HammingSeven::new(), 16, 3)?;
+    let scheme = sevens(rt.alloc(), 16)?;
     let page = write_twice(&rt, rt.alloc(), scheme, &sector, &[0x5a; 16])?;
     let mut cells = [0; 38];
     cells[0] = 0x10;
@@ -114,8 +105,7 @@ fn the_ham16_page_of_a5_begins_with_10_84(rt: HostRuntime) -> Result<(), Fail> {
 
 #[test]
 fn ham512_takes_any_second_sector(rt: HostRuntime) -> Result<(), Fail> {
-    let code = HammingSeven::new();
-    let scheme = Striped::with_generations(rt.alloc(), code, HammingSeven::new(), 512, 3)?;
+    let scheme = sevens(rt.alloc(), 512)?;
     let page = write_twice(&rt, rt.alloc(), scheme, &[0xa5; 512], &[0x5a; 512])?;
     assert_eq!(rt; page.len(), 1196);
     Ok(())
@@ -123,8 +113,7 @@ fn ham512_takes_any_second_sector(rt: HostRuntime) -> Result<(), Fail> {
 
 #[test]
 fn coset16_takes_a_second_sector_over_a_plain_one(rt: HostRuntime) -> Result<(), Fail> {
-    let code = Plain::<128, 144>::new();
-    let scheme = Striped::new(rt.alloc(), code, unit_code(rt.alloc())?, 16)?;
+    let scheme = cosets(rt.alloc(), 16)?;
     let page = write_twice(&rt, rt.alloc(), scheme, &[0xa5; 16], &[0x5a; 16])?;
     assert_eq!(rt; page.len(), 18);
     Ok(())
@@ -132,8 +121,7 @@ fn coset16_takes_a_second_sector_over_a_plain_one(rt: HostRuntime) -> Result<(),
 
 #[test]
 fn coset512_takes_a_second_sector_over_a_plain_one(rt: HostRuntime) -> Result<(), Fail> {
-    let code = Plain::<128, 144>::new();
-    let scheme = Striped::new(rt.alloc(), code, unit_code(rt.alloc())?, 512)?;
+    let scheme = cosets(rt.alloc(), 512)?;
     let page = write_twice(&rt, rt.alloc(), scheme, &[0xa5; 512], &[0x5a; 512])?;
     assert_eq!(rt; page.len(), 576);
     Ok(())
@@ -141,8 +129,7 @@ fn coset512_takes_a_second_sector_over_a_plain_one(rt: HostRuntime) -> Result<()
 
 #[test]
 fn the_flip16_page_of_all_ones_has_one_charged_cell(rt: HostRuntime) -> Result<(), Fail> {
-    let code = Flip::<128, 144>::new();
-    let scheme = Striped::new(rt.alloc(), code, unit_code(rt.alloc())?, 16)?;
+    let scheme = flips(rt.alloc(), 16)?;
     let page = write_twice(&rt, rt.alloc(), scheme, &[0xff; 16], &[0x5a; 16])?;
     let mut cells = [0; 18];
     cells[16] = 0x01;
@@ -152,8 +139,7 @@ fn the_flip16_page_of_all_ones_has_one_charged_cell(rt: HostRuntime) -> Result<(
 
 #[test]
 fn flip512_takes_a_second_sector_over_a_turned_one(rt: HostRuntime) -> Result<(), Fail> {
-    let code = Flip::<128, 144>::new();
-    let scheme = Striped::new(rt.alloc(), code, unit_code(rt.alloc())?, 512)?;
+    let scheme = flips(rt.alloc(), 512)?;
     let page = write_twice(&rt, rt.alloc(), scheme, &[0xff; 512], &[0x5a; 512])?;
     assert_eq!(rt; page.len(), 576);
     Ok(())

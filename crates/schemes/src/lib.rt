@@ -1,7 +1,9 @@
 //! The schemes of the table, made of their codes. Each takes a unit's memory, and those of coset codes also that of their columns.
+#![tactic(auto)]
+
 ghost use Rattle.std.specs.Prelude.{◌≡◌, ◌≤◌, IfOk};
 ghost use Rattle.die_image.specs.declared.scheme.SchemeName.{SchemeName as Name};
-ghost use Rattle.rssd_run.specs.Schemes.{plain_meaning, pair_meaning, coset_meaning, flip_meaning, seven_meaning, table_of_one, meaning_named, HasRow};
+ghost use Rattle.schemes.specs.Schemes.{plain_meaning, pair_meaning, coset_meaning, flip_meaning, seven_meaning, table_of_one, meaning_named, HasRow};
 
 use coset_code::{Columns, Coset, CosetRefusal};
 use hamming_seven::HammingSeven;
@@ -10,15 +12,15 @@ use std::alloc::{AllocError, Global};
 use striped::{Scheme, Striped};
 use wom_code::{Flip, Plain};
 
-type Plains = Striped<Plain<128, 128>, Plain<128, 128>, 128, 128, 128>;
+pub type Plains = Striped<Plain<128, 128>, Plain<128, 128>, 128, 128, 128>;
 
-type Pairs = Striped<RivestShamir, RivestShamir, 2, 3, 3>;
+pub type Pairs = Striped<RivestShamir, RivestShamir, 2, 3, 3>;
 
-type Cosets = Striped<Plain<128, 144>, Coset<128, 288>, 128, 144, 288>;
+pub type Cosets = Striped<Plain<128, 144>, Coset<128, 288>, 128, 144, 288>;
 
-type Flips = Striped<Flip<128, 144>, Coset<128, 288>, 128, 144, 288>;
+pub type Flips = Striped<Flip<128, 144>, Coset<128, 288>, 128, 144, 288>;
 
-type Sevens = Striped<HammingSeven, HammingSeven, 3, 7, 7>;
+pub type Sevens = Striped<HammingSeven, HammingSeven, 3, 7, 7>;
 
 /// 128 bits as they are, at both writes.
 #[tactic(auto, unfolding(crate::specs::Schemes::plain_meaning))]
