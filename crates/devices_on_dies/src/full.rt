@@ -6,10 +6,10 @@
 //! one of which has one record that is no longer live, and collects the others of that block; each collection but the first erases
 //! the Spare before. With as many sectors as a block has pages there is room for second writes.
 
-use schemes::{cosets, flips, pairs, plains, sevens};
 use crate::start::{mounted, started};
 use mem_die::MemDie;
 use rssd_core::{Counts, Device, Ftl, Plan, PowerDevice};
+use schemes::{cosets, flips, pairs, plains, sevens};
 use std::alloc::Global;
 use std::process::Abort;
 use std::test::Fail;

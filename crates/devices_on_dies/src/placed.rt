@@ -2,11 +2,11 @@
 //! blocks of two pages, and the one of a thousand writes a die of three. The first bytes of a page are what the codes make
 //! of the sectors written there, worked out by their tables.
 
-use schemes::{cosets, pairs, plains, sevens};
 use crate::start::started;
 use cell_die::Die;
 use mem_die::MemDie;
 use rssd_core::{Counts, Device, Ftl, FtlError, Placed, Plan, PowerDevice};
+use schemes::{cosets, pairs, plains, sevens};
 use std::process::Abort;
 use std::test::Fail;
 use striped::Scheme;

@@ -25,7 +25,6 @@ ghost use Rattle.rssd_run.specs.Top.{SaysAudit};
 
 use crate::refusal::{refuse, refuse_image};
 use crate::run::image::{ImageReadError, read_image};
-use schemes::{cosets, flips, pairs, plains, sevens};
 use crate::status::Status;
 use arrayvec::ArrayVec;
 use die_image::{ImageHead, ImageReader, SchemeName};
@@ -33,6 +32,7 @@ use image_audit::{Held, OutOfMemory, Verdict, audit};
 use itoa::Buffer;
 use rssd_io::{Sink, Source, WriteFault};
 use rssd_script::{ReplyText, print_sector};
+use schemes::{cosets, flips, pairs, plains, sevens};
 use std::alloc::{AllocError, Global};
 use striped::Scheme;
 

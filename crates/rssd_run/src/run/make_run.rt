@@ -12,7 +12,6 @@ ghost use Rattle.schemes.specs.Schemes.{meaning_named};
 use crate::run::Stepping;
 use crate::run::on_die::{RunError, start};
 use crate::run::replay::blank_die;
-use schemes::{cosets, flips, pairs, plains, sevens};
 use crate::run::session::Session;
 use crate::run::workload::{Seeded, held_text, read_held, step_workload};
 use crate::status::Status;
@@ -22,6 +21,7 @@ use rssd_core::device::PowerDevice;
 use rssd_core::whole::Ftl;
 use rssd_io::{Sink, WriteFault};
 use rssd_script::{Line, Reply, print_reply};
+use schemes::{cosets, flips, pairs, plains, sevens};
 use std::alloc::{AllocError, Global};
 use striped::Scheme;
 

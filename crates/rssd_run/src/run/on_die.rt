@@ -12,7 +12,6 @@ ghost use Rattle.schemes.specs.Schemes.{meaning_named};
 ghost use Rattle.rssd_run.specs.Shows.{CanStep, session_of};
 
 use crate::run::run_lines;
-use schemes::{cosets, flips, pairs, plains, sevens};
 use crate::run::session::Session;
 use cell_die::Shape;
 use die_image::{ImageHead, SchemeName};
@@ -21,6 +20,7 @@ use rssd_core::device::{MountError, Plan, PowerDevice};
 use rssd_core::whole::Ftl;
 use rssd_io::Sink;
 use rssd_script::Line;
+use schemes::{cosets, flips, pairs, plains, sevens};
 use std::alloc::{AllocError, Global};
 use striped::Scheme;
 

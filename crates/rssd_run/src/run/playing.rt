@@ -12,13 +12,13 @@ ghost use Rattle.schemes.specs.Schemes.{meaning_named};
 ghost use Rattle.rssd_run.specs.View.{View, Event};
 
 use crate::run::line::play;
-use schemes::{cosets, flips, pairs, plains, sevens};
 use cell_die::Die;
 use die_image::{ImageHead, SchemeName};
 use rssd_core::device::{Device, MountError, Plan};
 use rssd_core::whole::Ftl;
 use rssd_io::{Sink, WriteFault};
 use rssd_script::{Line, Reply, print_reply};
+use schemes::{cosets, flips, pairs, plains, sevens};
 use std::alloc::{AllocError, Global};
 use striped::Scheme;
 

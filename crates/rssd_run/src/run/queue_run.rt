@@ -23,7 +23,6 @@ use crate::refusal::refuse_script;
 use crate::run::on_die::{RunError, start};
 use crate::run::queue_lines::queue_lines;
 use crate::run::replay::blank_die;
-use schemes::{cosets, flips, pairs, plains, sevens};
 use crate::run::script::{ReadError, read_script};
 use crate::run::session::Session;
 use crate::status::Status;
@@ -34,6 +33,7 @@ use rssd_core::whole::Ftl;
 use rssd_io::{Sink, Source};
 use rssd_queue::Queue;
 use rssd_script::Line;
+use schemes::{cosets, flips, pairs, plains, sevens};
 use std::alloc::{AllocError, Global};
 use striped::Scheme;
 
