@@ -6,7 +6,7 @@ mod clock;
 
 use clock::Clocked;
 use rssd_io::{BufSink, FileSink, FileSource, StdSink, StdSource};
-use rssd_lab::{Sources, lab};
+use rssd_lab::{Sources, main_of};
 use std::process::ExitCode;
 use std::{env, io};
 
@@ -20,16 +20,17 @@ fn words(rt: &HostRuntime) -> io::Result<Vec<String>> {
 }
 
 fn main(rt: HostRuntime) -> ExitCode {
-    let Ok(words) = words(&rt) else {
-        return ExitCode::from(7);
-    };
+    let words = words(&rt);
     let from = Sources {
         lines: StdSource::new(rt.stdin()),
         image: FileSource::new(&rt, "die.img"),
     };
     let mut out = BufSink::new(StdSink::new(rt.stdout()));
     let mut image_out = FileSink::new(&rt, "die.new");
-    let pace = Clocked::new(&rt, &words);
-    let outcome = lab(rt.alloc(), &words, from, &mut out, &mut image_out, pace);
+    let pace = match &words {
+        Ok(words) => Clocked::new(&rt, words),
+        Err(_) => Clocked::new(&rt, &[]),
+    };
+    let outcome = main_of(rt.alloc(), words, from, &mut out, &mut image_out, pace);
     ExitCode::from(outcome.status)
 }

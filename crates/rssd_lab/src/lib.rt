@@ -5,6 +5,7 @@
 mod laboratory;
 mod on_die;
 mod pace;
+mod program;
 mod ready;
 mod score;
 mod stage;
@@ -15,6 +16,7 @@ mod top;
 pub use laboratory::run;
 pub use on_die::{run_asked, run_on};
 pub use pace::{Pace, Paced};
+pub use program::main_of;
 pub use ready::{Ready, pair, plain, read_ready, worn};
 pub use score::Score;
 pub use stage::{Stage, run_stage};

@@ -52,7 +52,7 @@ fn refuse<O: Sink>(out: &mut O, line: &[u8])
 }
 
 /// Refuses words.
-fn refuse_words<O: Sink>(out: &mut O) -> Status
+pub fn refuse_words<O: Sink>(out: &mut O) -> Status
     ensures line { GivesLine (codes "bad words\n") (O.log out.old) (O.log out.new) }
     ensures status { result ≡ Status.BadWords }
 {
