@@ -1,5 +1,5 @@
-//! The rows that scripts write: row 0 is zeros, and the cells of row 1 lie below those of row 2, and these below those of row 3.
-//! So a plain code carries some of them over others, and declines the rest.
+//! The rows of bytes that scripts write: the first is zeros, and the cells of each lie below those of the next. So a plain code
+//! carries some of them over others, and declines the rest.
 
 /// How many rows there are.
 pub const ROWS: u8 = 4;

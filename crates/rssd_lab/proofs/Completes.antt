@@ -79,7 +79,8 @@ module _ (telling : Telling) (Start : DeviceValue → Type 0) (input : Input) (o
       let came = unplayed.came.1 in
       let is : takes input ≡ came.events = since_is input.before input.after came.events came.came in
       let are = came.spelled (subst EndsOnce is script.once) in
-      unplayed.unplayed (last_played (taken input) came.front unplayed.came.0 input.after unplayed.lines unplayed.last script.lines (ap bytes_of is ∙ came.bytes) are.script are.whole script.script script.played)
+      unplayed.unplayed (last_played (taken input) came.front unplayed.came.0 input.after unplayed.lines unplayed.last script.lines
+      (ap bytes_of is ∙ came.bytes) are.script are.whole script.script script.played)
 
   input_completes : (status : Status) → StopsInput telling Start input out status → HasPlayed input → (ReadFailed input → ⊥) → (WriteFailed out → ⊥)
       → (status ≡ Done) ⊎ (status ≡ OutOfMemory)

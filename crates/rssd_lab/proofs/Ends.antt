@@ -48,7 +48,8 @@ where_err (Ok x) so holds = tt
 where_err (Err e) so holds = so e holds
 
 -- lines that came through a supply that passes them on
-through : {L M : Type 0} (f : L → M) (gives : M → Line → M → Type 0) (old new : L) (lines : List Line) → AllGiven (λ a line b. gives (f a) line (f b)) old lines new → AllGiven gives (f old) lines (f new)
+through : {L M : Type 0} (f : L → M) (gives : M → Line → M → Type 0) (old new : L) (lines : List Line)
+    → AllGiven (λ a line b. gives (f a) line (f b)) old lines new → AllGiven gives (f old) lines (f new)
 unfolding AllGiven
 through f gives old new [] same = ap f same
 through f gives old new (line ∷ lines) given = (f given.0, given.1, through f gives given.0 new lines given.2)
@@ -211,7 +212,9 @@ unfolding drawn_from
 last_played plan state zero [] other is = absurd cc
 last_played plan state zero (line ∷ lines) other is = absurd cc
 last_played plan state (suc k) [] other is = let same : other ≡ drawn_line plan state = cc in subst IsPlayed (sym same) (line_played plan state)
-last_played plan state (suc k) (line ∷ lines) other is = let rest : lines ++ other ∷ [] ≡ drawn_from plan k (state_after plan state) = cc in last_played plan (state_after plan state) k lines other rest
+last_played plan state (suc k) (line ∷ lines) other is =
+    let rest : lines ++ other ∷ [] ≡ drawn_from plan k (state_after plan state) = cc in
+    last_played plan (state_after plan state) k lines other rest
 
 abbrev Draws : {P : Type 0} → Paced Drawn P → Line → Paced Drawn P → Type 0
 Draws old line new = DrawsLine (inner_of old) line (inner_of new)

@@ -54,7 +54,8 @@ module _ {L : Type 0} (gives : L → Line → L → Type 0) (d : Numbers) (telli
     listed chain.0 new rest more chain.2,
   )
 
-  came : (old new : At L) (answered : List Answered) (more : List Line) (after : L) → PlaysLines gives d telling old answered new → AllGiven gives new.lines more after → AllGiven gives old.lines (lines_and answered more) after
+  came : (old new : At L) (answered : List Answered) (more : List Line) (after : L) → PlaysLines gives d telling old answered new
+      → AllGiven gives new.lines more after → AllGiven gives old.lines (lines_and answered more) after
   unfolding Chain AllGiven
   came old new [] more after same given = subst (λ (s : At L). AllGiven gives s.lines more after) same given
   came old new (first ∷ rest) more after chain given = (chain.0.lines, chain.1.given, came chain.0 new rest more after chain.2 given)
@@ -187,7 +188,8 @@ module _ {L : Type 0} (gives : L → Line → L → Type 0) (ended : L → L →
         other = other;
         given = subst (λ (l : L). AllGiven gives lines (lines_and plays.answered [] ++ other ∷ []) l) runs.lines_last
             (subst (λ (all : List Line). AllGiven gives lines all runs.last.lines) behind
-            (came gives device.numbers telling start last plays.answered (other ∷ []) runs.last.lines plays.plays (one_more gives device.numbers telling plays.last runs.last.lines other plays.after.1)));
+            (came gives device.numbers telling start last plays.answered (other ∷ []) runs.last.lines plays.plays
+            (one_more gives device.numbers telling plays.last runs.last.lines other plays.after.1)));
         unplayed = plays.after.2;
         number_is = omega (arith, runs.plays.1, many, ap (λ (a : Answers). a.lines) runs.first.answers, length_lines plays.answered);
         plays = subst (λ (all : List Line). StopsList telling Start (NotPlayed number) all log log_after) behind (
@@ -227,7 +229,8 @@ module _ {L : Type 0} (gives : L → Line → L → Type 0) (ended : L → L →
         listed = lines_and told.answered (told.line ∷ []);
         last = lines_after;
         given = subst (λ (l : L). AllGiven gives lines (lines_and told.answered (told.line ∷ [])) l) line.lines_last
-            (came gives device.numbers telling start told.last told.answered (told.line ∷ []) line.last.lines told.plays (one_more gives device.numbers telling told.last.lines line.last.lines told.line told.given));
+            (came gives device.numbers telling start told.last told.answered (told.line ∷ []) line.last.lines told.plays
+            (one_more gives device.numbers telling told.last.lines line.last.lines told.line told.given));
         ends = inl refl;
         plays = (
           device,

@@ -16,7 +16,8 @@ use Rattle.rssd_lab.specs.Chain.{Chain}
 use Rattle.rssd_lab.specs.Runs.{Answered, At, PlaysLines, StopsLines, StopsRun, IsFirst, handed, told_for, run_head, state_at}
 use Rattle.rssd_lab.specs.Started.{RunsFrom, StopsFrom}
 
-pub grew : {L : Type 0} (gives : L → Line → L → Type 0) (d : Numbers) (telling : Telling) (old new : At L) (answered : List Answered) → PlaysLines gives d telling old answered new → Grows old.log new.log
+pub grew : {L : Type 0} (gives : L → Line → L → Type 0) (d : Numbers) (telling : Telling) (old new : At L) (answered : List Answered)
+    → PlaysLines gives d telling old answered new → Grows old.log new.log
 unfolding Chain
 grew {L} gives d telling old new [] same = ([], ap (λ (s : At L). s.log) same ∙ sym (append-nil old.log))
 grew gives d telling old new (first ∷ rest) chain =

@@ -145,7 +145,8 @@ RunsTo gives ended telling device device_after lines lines_after log log_after =
     (runs : Runs gives ended telling device lines lines_after log log_after) × (runs.last.device ≡ device_after)
 
 -- the same up to where it stopped, with no table at its end
-pub record RunsUpTo {L : Type 0} (gives : L → Line → L → Type 0) (stops : L → LinesEnd → L → Type 0) (telling : Telling) (device : DeviceValue) (why : Stop) (lines lines_after : L) (log log_after : List Event) : Type 0 where
+pub record RunsUpTo {L : Type 0} (gives : L → Line → L → Type 0) (stops : L → LinesEnd → L → Type 0) (telling : Telling)
+    (device : DeviceValue) (why : Stop) (lines lines_after : L) (log log_after : List Event) : Type 0 where
   pub score : Score
   pub first : IsFirst device score
   pub last : At L
@@ -154,7 +155,8 @@ pub record RunsUpTo {L : Type 0} (gives : L → Line → L → Type 0) (stops : 
   pub log_last : last.log ≡ log_after
 
 -- all lines were played and told, and then a call failed at what is given at the end
-pub record EndsUntold {L : Type 0} (gives : L → Line → L → Type 0) (ended : L → L → Type 0) (telling : Telling) (device : DeviceValue) (lines lines_after : L) (log log_after : List Event) : Type 0 where
+pub record EndsUntold {L : Type 0} (gives : L → Line → L → Type 0) (ended : L → L → Type 0) (telling : Telling)
+    (device : DeviceValue) (lines lines_after : L) (log log_after : List Event) : Type 0 where
   pub score : Score
   pub first : IsFirst device score
   pub last : At L

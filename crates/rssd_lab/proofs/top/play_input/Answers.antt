@@ -20,8 +20,9 @@ returns-in-Ok-clause-all g c =
     let same : inner_of c.new-lines.result ≡ c.in-Ok.stream = c.new-lines.ensures in
     let source : source_of (inner_of c.new-lines.result) ≡ c.args.input = ap source_of same ∙ c.in-Ok.ensures.source in
     let back : c.into_source.result ≡ source_of (inner_of c.play_lines-played.new.lines) = c.into_source.ensures ∙ ap source_of c.into_inner.ensures in
-    subst (λ (s : g.row.I.Denot). IfOk played (λ left. PlaysInput telling (StartOn stage) (EndOn stage left) (input (log s) (log c.into_source.result)) (output out out_after))) source
-    (subst (λ (s : g.row.I.Denot). IfOk played (λ left. PlaysInput telling (StartOn stage) (EndOn stage left) (input (log (source_of (inner_of c.new-lines.result))) (log s)) (output out out_after))) (sym back)
+    let all = λ (from to : g.row.I.Denot). IfOk played (λ left. PlaysInput telling (StartOn stage) (EndOn stage left) (input (log from) (log to)) (output out out_after)) in
+    subst (λ (s : g.row.I.Denot). all s c.into_source.result) source
+    (subst (λ (s : g.row.I.Denot). all (source_of (inner_of c.new-lines.result)) s) (sym back)
     (where_ok played (λ left run. all_played log telling (StartOn stage) c.new-lines.result c.play_lines-played.new.lines
     (ap ahead_of same ∙ c.in-Ok.ensures.ahead) (ap lines_of same ∙ c.in-Ok.ensures.lines) out (EndOn stage left) out_after run) c.play_lines-played.ensures.all))
 
@@ -36,7 +37,8 @@ returns-in-Ok-clause-halts g c =
     let same : inner_of c.new-lines.result ≡ c.in-Ok.stream = c.new-lines.ensures in
     let source : source_of (inner_of c.new-lines.result) ≡ c.args.input = ap source_of same ∙ c.in-Ok.ensures.source in
     let back : c.into_source.result ≡ source_of (inner_of c.play_lines-played.new.lines) = c.into_source.ensures ∙ ap source_of c.into_inner.ensures in
-    subst (λ (s : g.row.I.Denot). IfErr played (λ halt. HaltsInput telling stage (input (log s) (log c.into_source.result)) (output out out_after) halt)) source
-    (subst (λ (s : g.row.I.Denot). IfErr played (λ halt. HaltsInput telling stage (input (log (source_of (inner_of c.new-lines.result))) (log s)) (output out out_after) halt)) (sym back)
+    let halts = λ (from to : g.row.I.Denot). IfErr played (λ halt. HaltsInput telling stage (input (log from) (log to)) (output out out_after) halt) in
+    subst (λ (s : g.row.I.Denot). halts s c.into_source.result) source
+    (subst (λ (s : g.row.I.Denot). halts (source_of (inner_of c.new-lines.result)) s) (sym back)
     (where_err played (λ halt stop. input_halts log telling stage c.new-lines.result c.play_lines-played.new.lines
     (ap ahead_of same ∙ c.in-Ok.ensures.ahead) (ap lines_of same ∙ c.in-Ok.ensures.lines) out out_after halt stop) c.play_lines-played.ensures.halts))
