@@ -14,7 +14,7 @@ use Rattle.block_state.specs.declared.state.State.TheVariants.{Spare}
 use Rattle.block_state.specs.Book.{BookValue, with_state}
 use Rattle.page_codec.specs.declared.place.Place.{Place}
 use Rattle.page_codec.specs.Promises.{Keeps, KeepsRecords}
-use Rattle.page_codec.specs.Puts.{Puts, FirstCarries, first_slot, spare_of}
+use Rattle.page_codec.specs.Puts.{Puts, FirstGives, first_slot, spare_of}
 use Rattle.page_codec.specs.Sectors.{says_zeros}
 use Rattle.page_codec.specs.Units.{decoded_at, reads_of}
 use Rattle.collector.specs.Steps.{copied_header, copy_reads, DecodesTo, DecodesInto, PutsDrawn}
@@ -51,12 +51,12 @@ keeps_after place h old mid new same shape keeps g s header =
 -- A put of a sector, whose page then decodes to it.
 pub sector_put : (meaning : Meaning) (spare page number : ℕ) (copy : Header) (sector : List ℕ) (old new : DieState) (book after : BookValue) (seq next : ℕ)
     → copy ≡ record { sector = number; seq = seq; kind = 2 }
-    → Puts (FirstCarries meaning page sector) 1 (first_slot page) copy old new → KeepsRecords (first_slot page) copy old new
+    → Puts (FirstGives meaning page sector) 1 (first_slot page) copy old new → KeepsRecords (first_slot page) copy old new
     → Decodes meaning → IsSector meaning sector → after ≡ with_state book spare (Spare false) → next ≡ seq + 1
     → PutsDrawn (DecodesInto meaning page sector) spare page (record { sector = number; seq = seq; kind = 2 }) old book seq new after next
 sector_put meaning spare page number copy sector old new book after seq next drawn put keeps decodes is marked more = record {
   put = subst (λ (h : Header). Puts (DecodesInto meaning page sector) 1 (first_slot page) h old new) drawn
-      (puts_after (FirstCarries meaning page sector) (DecodesInto meaning page sector) 1 (first_slot page) copy old old new (record { cells = refl; erases = refl }) refl
+      (puts_after (FirstGives meaning page sector) (DecodesInto meaning page sector) 1 (first_slot page) copy old old new (record { cells = refl; erases = refl }) refl
       (λ done carries. decodes.first (take meaning.page_bytes (done page)) sector is carries) put);
   records = subst (λ (h : Header). KeepsRecords (first_slot page) h old new) drawn keeps;
   marked = marked;

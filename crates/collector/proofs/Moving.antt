@@ -200,7 +200,7 @@ module _ (g : Geometry) (meaning : Meaning) (live : LiveRecord) (page : ℕ) (di
             let whole : page_of new page ≡ p.done page = p.whole (sym gate_is ∙ charged) page in
             let first : meaning.decoding.first (main_at g new.cells page) ≡ decoded_at meaning die live.place
             = m.decodes.first (main_at g new.cells page) (decoded_at meaning die live.place) content.1
-            ((λ i. meaning.decoding.first_carries (take (sym m.main_bytes i) (whole i)) (decoded_at meaning die live.place)) ∙ content.0) in
+            ((λ i. meaning.decoding.first_gives (take (sym m.main_bytes i) (whole i)) (decoded_at meaning die live.place)) ∙ content.0) in
             ap (λ (t : Bool). if t then zero_sector g else meaning.decoding.first (main_at g new.cells (next_page g block fill))) (again_says live.header seq ∙ bytes)
             ∙ (ap (λ (q : ℕ). meaning.decoding.first (main_at g new.cells q)) (sym at_page) ∙ (first ∙ (decoded
             ∙ sym (ap (λ (t : Bool). if t then zero_sector g else (if live.place.slot == 0 then meaning.decoding.first (main_at g die.cells live.place.page) else meaning.decoding.second (unit_at g die.cells live.place.page))) bytes))))

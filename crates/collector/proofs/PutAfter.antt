@@ -10,7 +10,7 @@ use Rattle.cell_die.proofs.Sequences.{passed_trans, change_failed_after}
 use Rattle.striped.specs.Meaning.{Meaning, IsSector}
 use Rattle.spare_gate.specs.Slots.{with_record}
 use Rattle.page_codec.specs.declared.place.Place.{Place}
-use Rattle.page_codec.specs.Puts.{Puts, FirstCarries, first_slot}
+use Rattle.page_codec.specs.Puts.{Puts, FirstGives, first_slot}
 use Rattle.page_codec.specs.Sectors.{says_zeros}
 use Rattle.page_codec.specs.Units.{reads_of, decoded_at}
 use Rattle.collector.specs.declared.live.LiveRecord.{LiveRecord}
@@ -44,10 +44,10 @@ puts_after place h old mid new same shape p content = record {
 
 -- the bytes of a record were read and put again
 pub bytes_puts : (meaning : Meaning) (live : LiveRecord) (page : ℕ) (sector : List ℕ) (old mid new : DieState) (seq : ℕ) → SameCells old mid → mid.shape ≡ old.shape
-    → Puts (FirstCarries meaning page sector) 1 (first_slot page) (again live.header seq) mid new → sector ≡ decoded_at meaning old live.place → IsSector meaning sector
+    → Puts (FirstGives meaning page sector) 1 (first_slot page) (again live.header seq) mid new → sector ≡ decoded_at meaning old live.place → IsSector meaning sector
     → PutsAgain meaning live page old seq new
 bytes_puts meaning live page sector old mid new seq same shape p got is =
-    puts_after (first_slot page) (again live.header seq) old mid new same shape p (λ bytes. (subst (λ (s : List ℕ). FirstCarries meaning page s p.done) got p.content, subst (IsSector meaning) got is))
+    puts_after (first_slot page) (again live.header seq) old mid new same shape p (λ bytes. (subst (λ (s : List ℕ). FirstGives meaning page s p.done) got p.content, subst (IsSector meaning) got is))
 
 reads_for_bytes : (meaning : Meaning) (live : LiveRecord) → says_zeros live.header ≡ false → reads_of meaning live.place ≡ again_reads meaning live
 reads_for_bytes meaning live bytes = sym (ap (λ (t : Bool). if t then 0 else reads_of meaning live.place) bytes)

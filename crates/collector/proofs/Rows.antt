@@ -11,7 +11,7 @@ use Rattle.page_codec.specs.declared.place.Place.{Place}
 use Rattle.page_codec.specs.Geometry.{Geometry, main_at, unit_at}
 use Rattle.page_codec.specs.Records.{live_record}
 use Rattle.page_codec.specs.Sectors.{said_by, says_zeros, zero_sector, stored}
-use Rattle.page_codec.specs.Puts.{Puts, FirstCarries, first_slot, is_gated}
+use Rattle.page_codec.specs.Puts.{Puts, FirstGives, first_slot, is_gated}
 use Rattle.page_codec.proofs.PutStored.{StoresOne}
 
 -- a row of the stored sectors
@@ -59,13 +59,13 @@ rows_same g d place h old new s said = λ i. map (λ sector. at sector (cases_eq
 -- ---- what a record says
 
 -- a first write says the sector that was written
-pub first_says : (g : Geometry) (meaning : Meaning) (page : ℕ) (h : Header) (sector : List ℕ) (old new : DieState) → Puts (FirstCarries meaning page sector) 1 (first_slot page) h old new
+pub first_says : (g : Geometry) (meaning : Meaning) (page : ℕ) (h : Header) (sector : List ℕ) (old new : DieState) → Puts (FirstGives meaning page sector) 1 (first_slot page) h old new
     → is_gated new (first_slot page) ≡ true → meaning.page_bytes ≡ g.main_bytes → Decodes meaning → IsSector meaning sector → says_zeros h ≡ false
     → said_by g meaning.decoding new.cells (Some (record { place = first_slot page; header = h })) ≡ sector
 first_says g meaning page h sector old new p gated bytes decodes is kind =
     ap (λ t. if t then zero_sector g else meaning.decoding.first (main_at g new.cells page)) kind
     ∙ decodes.first (main_at g new.cells page) sector is
-    ((λ i. meaning.decoding.first_carries (take (sym bytes i) (p.whole gated page i)) sector) ∙ p.content)
+    ((λ i. meaning.decoding.first_gives (take (sym bytes i) (p.whole gated page i)) sector) ∙ p.content)
 
 -- a record of zeros says zeros
 pub zeros_say : (g : Geometry) (d : Decoding) (cells : List (List ℕ)) (place : Place) (h : Header) → says_zeros h ≡ true → said_by g d cells (Some (record { place = place; header = h })) ≡ zero_sector g

@@ -11,8 +11,8 @@ use Rattle.page_codec.specs.declared.fault.PutFault.{PutFault}
 use Rattle.page_codec.specs.declared.fault.PutFault.TheVariants.{Read, Change}
 use Rattle.page_codec.specs.Geometry.{Geometry, block_of}
 use Rattle.page_codec.specs.Records.{live_record}
-use Rattle.page_codec.specs.Sectors.{says_zeros}
-use Rattle.page_codec.specs.Puts.{Puts, FirstCarries, first_slot, is_gated}
+use Rattle.page_codec.specs.Sectors.{says_zeros, said_by, InCells}
+use Rattle.page_codec.specs.Puts.{Puts, FirstGives, first_slot, is_gated}
 use Rattle.page_codec.specs.Units.{reads_of, decoded_at}
 use Rattle.collector.specs.declared.live.LiveRecord.{LiveRecord}
 use Rattle.collector.specs.Effects.{recorded, filled}
@@ -38,7 +38,7 @@ again_reads meaning live = if says_zeros live.header then 0 else reads_of meanin
 -- where the record says bytes, the page carries the sector that they decode to
 abbrev pub SaysAgain : Meaning → DieState → LiveRecord → ℕ → (ℕ → List ℕ) → Type 0
 SaysAgain meaning die live page done =
-    says_zeros live.header ≡ false → FirstCarries meaning page (decoded_at meaning die live.place) done × IsSector meaning (decoded_at meaning die live.place)
+    says_zeros live.header ≡ false → FirstGives meaning page (decoded_at meaning die live.place) done × IsSector meaning (decoded_at meaning die live.place)
 
 -- the put of the record on a page, from the next seq on
 abbrev pub PutsAgain : Meaning → LiveRecord → ℕ → DieState → ℕ → DieState → Type 0
@@ -64,6 +64,7 @@ pub record IsLive (g : Geometry) (cells : List (List ℕ)) (live : LiveRecord) :
 pub record MovedRecord (g : Geometry) (d : Decoding) (live : LiveRecord) (page : ℕ) (old new : Store) : Type 0 where
   pub there : live_record g new.die.cells live.header.sector ≡ Some (record { place = first_slot page; header = again live.header old.seq })
   pub others : (sector : ℕ) → sector ≢ live.header.sector → live_record g new.die.cells sector ≡ live_record g old.die.cells sector
+  pub cells : InCells g d new.die.cells page live.header (said_by g d old.die.cells (Some (record { place = live.place; header = live.header })))
   pub rows : SameRows g d old new
   pub book : (block fill : ℕ) → state_at old.book block ≡ Active fill → new.book ≡ filled (recorded old.book block (Some (block_of g live.place.page))) block
   pub seq : new.seq ≡ old.seq + 1

@@ -9,7 +9,7 @@ use Rattle.block_state.specs.declared.state.State.TheVariants.{Spare}
 use Rattle.block_state.specs.Book.{BookValue, state_at, live_at, with_state}
 use Rattle.page_codec.specs.Geometry.{Geometry}
 use Rattle.page_codec.specs.Records.{Placed, live_record}
-use Rattle.page_codec.specs.Sectors.{says_zeros}
+use Rattle.page_codec.specs.Sectors.{says_zeros, said_by, InCells}
 use Rattle.page_codec.specs.Sound.{IsSound, stands_in}
 use Rattle.collector.specs.Effects.{sealed}
 use Rattle.collector.specs.Moves.{ComesBefore}
@@ -60,6 +60,7 @@ pub record Collected (g : Geometry) (d : Decoding) (victim spare : ℕ) (old new
   pub are_live : AreLiveOf g old.die.cells victim records
   pub count : length records ≡ live_at old.book victim
   pub copied : (i : ℕ) → i < length records → live_record g new.die.cells (nth records i).header.sector ≡ Some (copy_of g spare old.seq (nth records i) i)
+  pub cells : (i : ℕ) → i < length records → InCells g d new.die.cells (spare * g.pages + i) (nth records i).header (said_by g d old.die.cells (Some (nth records i)))
   pub others : (sector : ℕ) → stands_in g victim (live_record g old.die.cells sector) ≡ false → live_record g new.die.cells sector ≡ live_record g old.die.cells sector
   pub rows : SameRows g d old new
   pub book : new.book ≡ sealed old.book victim spare

@@ -10,7 +10,7 @@ use Rattle.block_state.specs.Victim.{IsIdleVictim, NoneFits}
 use Rattle.page_codec.specs.declared.place.Place.{Place}
 use Rattle.page_codec.specs.Geometry.{Geometry, block_of}
 use Rattle.page_codec.specs.Records.{Placed, live_record}
-use Rattle.page_codec.specs.Sectors.{says_zeros}
+use Rattle.page_codec.specs.Sectors.{says_zeros, said_by, InCells}
 use Rattle.collector.specs.Effects.{recorded, filled}
 use Rattle.collector.specs.Store.{Store, IsTrueStore, SameRows}
 
@@ -58,6 +58,7 @@ pub record Moved (g : Geometry) (d : Decoding) (old new : Store) : Type 0 where
   pub live : live_record g new.die.cells first.header.sector
       ≡ Some (record { place = record { page = block * g.pages + fill; slot = 0 }; header = record { sector = first.header.sector; seq = old.seq; kind = plain_kind first.header } })
   pub others : (sector : ℕ) → sector ≢ first.header.sector → live_record g new.die.cells sector ≡ live_record g old.die.cells sector
+  pub cells : InCells g d new.die.cells (block * g.pages + fill) first.header (said_by g d old.die.cells (Some first))
   pub rows : SameRows g d old new
   pub book : new.book ≡ filled (recorded old.book block (Some victim)) block
   pub seq : new.seq ≡ old.seq + 1

@@ -7,7 +7,7 @@ ghost use Rattle.cell_die.specs.Calls.{Kept, Passed, ChangeFailed};
 ghost use Rattle.striped.specs.Meaning.{Meaning, IsSector};
 ghost use Rattle.page_codec.specs.Sizes.{Serves, ServesScheme};
 ghost use Rattle.page_codec.specs.Sectors.{says_zeros as zeros_said};
-ghost use Rattle.page_codec.specs.Puts.{Puts, FirstCarries, first_slot, is_gated};
+ghost use Rattle.page_codec.specs.Puts.{Puts, FirstGives, first_slot, is_gated};
 ghost use Rattle.page_codec.specs.Units.{reads_of};
 ghost use Rattle.collector.specs.Again.{again, AgainEnds};
 
@@ -81,7 +81,7 @@ fn put_sector<D: Die, C: Scheme>(
     requires page { page < page_count (D.state die.old).shape }
     requires blank { is_blank (page_of (D.state die.old) page) ≡ true }
     requires fresh { seq.old < 2 ^ 62 }
-    ensures put { Puts (FirstCarries (C.meaning scheme.old) page sector.now) 1 (first_slot page) (again header.now seq.old) (D.state die.old) (D.state die.new) }
+    ensures put { Puts (FirstGives (C.meaning scheme.old) page sector.now) 1 (first_slot page) (again header.now seq.old) (D.state die.old) (D.state die.new) }
     ensures sector { IsSector (C.meaning scheme.old) sector.now }
     ensures gated { OnOk result (is_gated (D.state die.new) (first_slot page) ≡ true) }
     ensures kept { Kept (D.state die.old) (D.state die.new) }

@@ -10,7 +10,7 @@ use Rattle.cell_die.proofs.CellLaws.{above_blank, no_charge}
 use Rattle.striped.specs.Meaning.{Meaning}
 use Rattle.spare_gate.specs.Slots.{with_header, gate_cell_of, is_gate_charged}
 use Rattle.cell_bits.proofs.Slices.{charge_main}
-use Rattle.page_codec.specs.Puts.{Puts, FirstCarries, MainBlank, spare_of, first_slot, is_gated}
+use Rattle.page_codec.specs.Puts.{Puts, FirstGives, MainBlank, spare_of, first_slot, is_gated}
 use Rattle.page_codec.proofs.PutOne.{IsTarget, Reaches, put_ends, ends_gated, midway_none, done_here}
 
 pub blank_row : (row : List ℕ) → is_blank row ≡ true → row ≡ blank_page (length row)
@@ -56,11 +56,11 @@ first_target page header old target blank same spare room = record {
 -- main bytes that carry the sector
 pub put_first_ends : (meaning : Meaning) (page : ℕ) (header : Header) (sector : List ℕ) (old new : DieState) (target : List ℕ)
     → IsTarget (first_slot page) header old target → new.shape ≡ old.shape → OnlyPage page old new → Reaches (page_of old page) (page_of new page) target (gate_cell_of old.shape.main_bytes 0)
-    → meaning.page_bytes ≡ old.shape.main_bytes → meaning.decoding.first_carries (take old.shape.main_bytes target) sector ≡ true
-    → Puts (FirstCarries meaning page sector) 1 (first_slot page) header old new
+    → meaning.page_bytes ≡ old.shape.main_bytes → meaning.decoding.first_gives (take old.shape.main_bytes target) sector ≡ true
+    → Puts (FirstGives meaning page sector) 1 (first_slot page) header old new
 put_first_ends meaning page header sector old new target t shape only reaches bytes carries =
-    put_ends (FirstCarries meaning page sector) 1 (first_slot page) header old old new target (omega arith) (midway_none (first_slot page) old) t shape only reaches
-    (ap (λ (main : List ℕ). meaning.decoding.first_carries main sector) (ap₂ (λ (n : ℕ) (row : List ℕ). take n row) bytes (done_here page _ old) ∙ charge_main old.shape.main_bytes target (128 * 0)) ∙ carries)
+    put_ends (FirstGives meaning page sector) 1 (first_slot page) header old old new target (omega arith) (midway_none (first_slot page) old) t shape only reaches
+    (ap (λ (main : List ℕ). meaning.decoding.first_gives main sector) (ap₂ (λ (n : ℕ) (row : List ℕ). take n row) bytes (done_here page _ old) ∙ charge_main old.shape.main_bytes target (128 * 0)) ∙ carries)
 
 -- The first write of a sector in a buffer of n bytes, of which m are main bytes.
 pub record IsFirstWrite (page : ℕ) (header : Header) (old : DieState) (written : List ℕ) (m n : ℕ) : Type 0 where
@@ -80,15 +80,15 @@ cell_there : (old : DieState) (m cell : ℕ) → old.shape.main_bytes ≡ m → 
 cell_there old m cell bytes e = e ∙ ap (λ (k : ℕ). gate_cell_of k 0) (sym bytes)
 
 pub first_write_puts : (meaning : Meaning) (page : ℕ) (header : Header) (sector : List ℕ) (old new : DieState) (written target : List ℕ) (m n cell : ℕ) → IsFirstWrite page header old written m n
-    → meaning.page_bytes ≡ m → meaning.decoding.first_carries (take m written) sector ≡ true → target ≡ written → cell ≡ gate_cell_of m 0
+    → meaning.page_bytes ≡ m → meaning.decoding.first_gives (take m written) sector ≡ true → target ≡ written → cell ≡ gate_cell_of m 0
     → new.shape ≡ old.shape → OnlyPage page old new → Reaches (page_of old page) (page_of new page) target cell
-    → Puts (FirstCarries meaning page sector) 1 (first_slot page) header old new
+    → Puts (FirstGives meaning page sector) 1 (first_slot page) header old new
 first_write_puts meaning page header sector old new written target m n cell w bytes carries same gate shape only reaches =
     put_first_ends meaning page header sector old new written (write_target page header old written m n w) shape only
     (subst (λ (t : List ℕ). Reaches (page_of old page) (page_of new page) t (gate_cell_of old.shape.main_bytes 0)) same
     (subst (Reaches (page_of old page) (page_of new page) target) (cell_there old m cell w.bytes gate) reaches))
     (bytes ∙ sym w.bytes)
-    (ap (λ (k : ℕ). meaning.decoding.first_carries (take k written) sector) w.bytes ∙ carries)
+    (ap (λ (k : ℕ). meaning.decoding.first_gives (take k written) sector) w.bytes ∙ carries)
 
 pub first_write_gated : (page : ℕ) (header : Header) (old new : DieState) (written target : List ℕ) (m n cell : ℕ) → IsFirstWrite page header old written m n
     → target ≡ written → cell ≡ gate_cell_of m 0 → new.shape ≡ old.shape → page_of new page ≡ charge target cell → is_gated new (first_slot page) ≡ true

@@ -33,16 +33,22 @@ pub record Puts (Content : (ℕ → List ℕ) → Type 0) (span : ℕ) (place : 
   pub above : (page : ℕ) → IsAbove (page_of new page) (page_of old page)
   pub below : (page : ℕ) → IsAbove (done page) (page_of new page)
   pub whole : is_gated new place ≡ true → (page : ℕ) → page_of new page ≡ done page
+  -- the first page of the unit is programmed last: while a further one is not whole, it is as it was
+  pub order : (page_of new place.page ≡ page_of old place.page) ⊎ ((page : ℕ) → place.page < page → page < place.page + span → page_of new page ≡ done page)
 
--- the main bytes of the page carry the sector
-abbrev pub FirstCarries : Meaning → ℕ → List ℕ → (ℕ → List ℕ) → Type 0
-FirstCarries meaning page sector done = meaning.decoding.first_carries (take meaning.page_bytes (done page)) sector ≡ true
+-- the main bytes of the page are those that a first write of the sector gives
+abbrev pub FirstGives : Meaning → ℕ → List ℕ → (ℕ → List ℕ) → Type 0
+FirstGives meaning page sector done = meaning.decoding.first_gives (take meaning.page_bytes (done page)) sector ≡ true
 
 -- the main bytes of the page are blank
 abbrev pub MainBlank : ℕ → ℕ → (ℕ → List ℕ) → Type 0
 MainBlank main_bytes page done = is_blank (take main_bytes (done page)) ≡ true
 
--- the main bytes of the unit carry the sector
-abbrev pub SecondCarries : Meaning → ℕ → List ℕ → (ℕ → List ℕ) → Type 0
-SecondCarries meaning page sector done =
-    meaning.decoding.second_carries (flat_map (λ p. take meaning.page_bytes (done p)) (range_with_len page meaning.span)) sector ≡ true
+-- the main bytes of the unit that begins at a page, of these pages
+abbrev pub unit_in : Meaning → ℕ → (ℕ → List ℕ) → List ℕ
+unit_in meaning page done = flat_map (λ p. take meaning.page_bytes (done p)) (range_with_len page meaning.span)
+
+-- the main bytes of the unit carry the sector, and are those that a later write of it gives over these old ones
+pub record SecondGives (meaning : Meaning) (page : ℕ) (old sector : List ℕ) (done : ℕ → List ℕ) : Type 0 where
+  pub carries : meaning.decoding.second_carries (unit_in meaning page done) sector ≡ true
+  pub gives : meaning.decoding.second_gives old sector (unit_in meaning page done) ≡ true

@@ -12,7 +12,7 @@ use Rattle.striped.specs.Meaning.{Meaning, NoneCarries}
 use Rattle.page_codec.specs.declared.place.Place.{Place}
 use Rattle.page_codec.specs.declared.fault.PutFault.{PutFault}
 use Rattle.page_codec.specs.declared.fault.PutFault.TheVariants.{Read, Change}
-use Rattle.page_codec.specs.Puts.{Puts, SecondCarries, spare_of, is_gated}
+use Rattle.page_codec.specs.Puts.{Puts, SecondGives, spare_of, is_gated}
 
 -- the main bytes of a page
 abbrev pub main_of : DieState → ℕ → List ℕ
@@ -46,9 +46,9 @@ HasMain main_bytes span page unit done = flat_map (λ p. take main_bytes (done p
 -- how a later write of a unit ends: carried, declined without a change, with a failed read or with a failed change call
 abbrev pub SecondEnds : Meaning → Place → Header → List ℕ → Result Carry PutFault → DieState → DieState → Type 0
 SecondEnds meaning place header sector (Ok Carried) old new =
-    Puts (SecondCarries meaning place.page sector) meaning.span place header old new × (is_gated new place ≡ true) × Passed (meaning.span + 1) meaning.span old new
+    Puts (SecondGives meaning place.page (unit_main old meaning.span place.page) sector) meaning.span place header old new × (is_gated new place ≡ true) × Passed (meaning.span + 1) meaning.span old new
 SecondEnds meaning place header sector (Ok Declined) old new =
     SameCells old new × NoneCarries meaning (unit_main old meaning.span place.page) sector × Passed 0 meaning.span old new
 SecondEnds meaning place header sector (Err Read) old new = SameCells old new × ReadFailed 0 meaning.span old new
 SecondEnds meaning place header sector (Err Change) old new =
-    Puts (SecondCarries meaning place.page sector) meaning.span place header old new × ChangeFailed (meaning.span + 1) meaning.span old new
+    Puts (SecondGives meaning place.page (unit_main old meaning.span place.page) sector) meaning.span place header old new × ChangeFailed (meaning.span + 1) meaning.span old new

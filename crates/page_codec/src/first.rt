@@ -7,7 +7,7 @@ ghost use Rattle.cell_die.specs.Calls.{Kept, Passed, ChangeFailed};
 ghost use Rattle.spare_gate.specs.Slots.{with_header};
 ghost use Rattle.page_codec.specs.Sizes.{Serves, ServesScheme};
 ghost use Rattle.page_codec.specs.Promises.{KeepsRecords};
-ghost use Rattle.page_codec.specs.Puts.{Puts, FirstCarries, first_slot, is_gated};
+ghost use Rattle.page_codec.specs.Puts.{Puts, FirstGives, first_slot, is_gated};
 
 use crate::gate::program_and_charge;
 use crate::work::Work;
@@ -30,7 +30,7 @@ fn write_first<C: Scheme>(
     requires least_kind { 1 ≤ header.now.kind }
     requires greatest_kind { header.now.kind ≤ 4 }
     ensures long { length page.new ≡ length page.old }
-    ensures carries { (C.meaning scheme.old).decoding.first_carries (take main_bytes page.new) sector.now ≡ true }
+    ensures carries { (C.meaning scheme.old).decoding.first_gives (take main_bytes page.new) sector.now ≡ true }
     ensures spare { drop main_bytes page.new ≡ with_header (replicate (length page.old - main_bytes) 0) 0 header.now }
     ensures same { C.meaning scheme.new ≡ C.meaning scheme.old }
 {
@@ -59,7 +59,7 @@ pub fn put_first<D: Die, C: Scheme>(
     requires least_kind { 1 ≤ header.now.kind }
     requires greatest_kind { header.now.kind ≤ 2 }
     requires sector { length sector.now ≡ (C.meaning scheme.old).sector_bytes }
-    ensures put { Puts (FirstCarries (C.meaning scheme.old) page sector.now) 1 (first_slot page) header.now (D.state die.old) (D.state die.new) }
+    ensures put { Puts (FirstGives (C.meaning scheme.old) page sector.now) 1 (first_slot page) header.now (D.state die.old) (D.state die.new) }
     ensures gated { OnOk result (is_gated (D.state die.new) (first_slot page) ≡ true) }
     ensures records { KeepsRecords (first_slot page) header.now (D.state die.old) (D.state die.new) }
     ensures kept { Kept (D.state die.old) (D.state die.new) }

@@ -7,7 +7,7 @@ use Rattle.cell_die.specs.Cells.{page_at, is_blank}
 use Rattle.cell_die.specs.DieState.{DieState, IsShaped, page_of}
 use Rattle.cell_die.specs.Calls.{Kept}
 use Rattle.spare_gate.specs.Slots.{is_gate_charged}
-use Rattle.page_codec.specs.Puts.{Puts, FirstCarries, MainBlank, first_slot, is_gated}
+use Rattle.page_codec.specs.Puts.{Puts, FirstGives, MainBlank, first_slot, is_gated}
 use Rattle.page_codec.specs.Sectors.{zero_sector}
 use Rattle.collector.proofs.Rows.{first_says, zeros_say}
 use Rattle.rssd_core.specs.Steps.{IsSized}
@@ -65,7 +65,7 @@ module _ (old new : DieState) (meaning : Meaning) (sizes : Sizes) (table : List 
     (tables : IsTrue (geometry_of old.shape meaning (length table)) old.cells book table seq) (branch : IsPageBranch book page)
     (small : seq < 2 ^ 62 + 2 ^ 8) (within : sector < length table) (narrow : sector < 2 ^ 32) where
   -- a put of a sector
-  pub sector_at_hand : (bytes : List ℕ) → Puts (FirstCarries meaning page bytes) 1 (first_slot page) (record { sector = sector; seq = seq; kind = 1 }) old new → Decodes meaning → IsSector meaning bytes
+  pub sector_at_hand : (bytes : List ℕ) → Puts (FirstGives meaning page bytes) 1 (first_slot page) (record { sector = sector; seq = seq; kind = 1 }) old new → Decodes meaning → IsSector meaning bytes
       → PutsAtHand (geometry_of old.shape meaning (length table)) meaning.decoding page (record { sector = sector; seq = seq; kind = 1 }) bytes (store old table book seq) new
   sector_at_hand bytes p decodes is =
       at_hand (geometry_of old.shape meaning (length table)) meaning.decoding page (record { sector = sector; seq = seq; kind = 1 }) bytes (store old table book seq) new sized p

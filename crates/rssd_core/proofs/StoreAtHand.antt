@@ -11,7 +11,7 @@ use Rattle.sector_map.specs.Entry.{entry_at, place_of}
 use Rattle.block_state.specs.Book.{BookValue, live_at}
 use Rattle.page_alloc.specs.CleanPage.{IsPageBranch}
 use Rattle.page_codec.specs.Geometry.{Geometry}
-use Rattle.page_codec.specs.Puts.{Puts, FirstCarries, MainBlank, first_slot, is_gated}
+use Rattle.page_codec.specs.Puts.{Puts, FirstGives, MainBlank, first_slot, is_gated}
 use Rattle.page_codec.specs.Sectors.{zero_sector}
 use Rattle.page_codec.specs.Sizes.{Sizes}
 use Rattle.page_codec.specs.TrueBook.{entry_of}
@@ -51,7 +51,7 @@ module _ {C : Type 0} {meaning : C → Meaning} {die : DieState} {scheme : C} {s
     inside_here = subst (λ (x : Held C). sector < x.geometry.sectors) (sym is) inside
 
     pub sector_here : {bytes : List ℕ} → length bytes ≡ old.geometry.sector_bytes → ((k : ℕ) → slice_index bytes k < 2 ^ 8) → Decodes (meaning scheme)
-        → Puts (FirstCarries (meaning scheme) page bytes) 1 (first_slot page) (header_at sector seq) die new → PutHere meaning die scheme table book seq page (header_at sector) (λ _. bytes) new
+        → Puts (FirstGives (meaning scheme) page bytes) 1 (first_slot page) (header_at sector seq) die new → PutHere meaning die scheme table book seq page (header_at sector) (λ _. bytes) new
     sector_here {bytes = bytes} long are_bytes decodes put = record {
       put = sector_at_hand die new (meaning scheme) sizes table book seq page sector kept.die kept.scheme kept.stands.sized same shaped shaped_new true_here branch_here small_here inside_here narrow
           bytes put decodes (record { long = subst (λ (x : Held C). length bytes ≡ x.geometry.sector_bytes) (sym is) long; bytes = are_bytes });

@@ -10,7 +10,7 @@ use Rattle.block_state.specs.Victim.{IsIdleVictim, NoneFits}
 use Rattle.reuse_pool.specs.Recycling.{Recycles}
 use Rattle.page_codec.specs.Puts.{first_slot}
 use Rattle.page_codec.specs.Records.{Placed, live_record}
-use Rattle.page_codec.specs.Sectors.{stored}
+use Rattle.page_codec.specs.Sectors.{stored, said_by, InCells}
 use Rattle.page_codec.specs.TrueBook.{IsTrue, live_map}
 use Rattle.collector.specs.Again.{again}
 use Rattle.collector.specs.Moves.{IsFirstLive, move_reads as reads_of_move}
@@ -48,6 +48,7 @@ pub record MoveByRule (d : Numbers) (sector : ℕ) (old new : Moment) : Type 0 w
   pub of_sector : first.header.sector ≡ sector
   pub live : live_record d.geometry new.die.cells sector ≡ Some (record { place = first_slot (block * d.geometry.pages + fill); header = again first.header old.seq })
   pub others : (other : ℕ) → other ≢ sector → live_record d.geometry new.die.cells other ≡ live_record d.geometry old.die.cells other
+  pub cells : InCells d.geometry d.meaning.decoding new.die.cells (block * d.geometry.pages + fill) first.header (said_by d.geometry d.meaning.decoding old.die.cells (Some first))
   pub rows : stored d.geometry d.meaning.decoding new.die.cells ≡ stored d.geometry d.meaning.decoding old.die.cells
   pub book : new.book ≡ filled (recorded old.book block (Some victim)) block
   pub seq : new.seq ≡ old.seq + 1

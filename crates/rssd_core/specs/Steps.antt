@@ -28,7 +28,7 @@ use Rattle.rssd_core.specs.Within.{Went, IsCollect}
 use Rattle.page_codec.specs.Geometry.{Geometry, units, unit_page, unit_at}
 use Rattle.page_codec.specs.Puts.{first_slot}
 use Rattle.page_codec.specs.Records.{live_record}
-use Rattle.page_codec.specs.Sectors.{stored}
+use Rattle.page_codec.specs.Sectors.{stored, InCells}
 use Rattle.page_codec.specs.Sound.{IsSound}
 use Rattle.collector.specs.Effects.{filled, recorded, former_in}
 use Rattle.collector.specs.Store.{Store, IsTrueStore, SameRows}
@@ -60,6 +60,7 @@ pub record PutNext (g : Geometry) (d : Decoding) (page : ℕ) (h : Header) (row 
   pub live : live_record g new.die.cells h.sector ≡ Some (record { place = first_slot page; header = h })
   pub others : (sector : ℕ) → sector ≢ h.sector → live_record g new.die.cells sector ≡ live_record g old.die.cells sector
   pub rows : SetsRow g d h.sector row old new
+  pub cells : InCells g d new.die.cells page h row
   pub book : new.book ≡ filled (recorded old.book block (former_block old.book old.table h.sector)) block
   pub seq : new.seq ≡ old.seq + 1
   pub tables : IsTrueStore g new
@@ -144,6 +145,7 @@ pub record PutOver (g : Geometry) (d : Decoding) (unit : ReuseUnit) (h : Header)
   pub rows : SetsRow g d h.sector row old new
   pub above : IsAbove (bytes_in g new unit) (bytes_in g old unit)
   pub carries : d.second_carries (bytes_in g new unit) row ≡ true
+  pub gives : d.second_gives (bytes_in g old unit) row (bytes_in g new unit) ≡ true
   pub book : new.book ≡ passing (recorded old.book unit.block (former_block old.book old.table h.sector)) unit
   pub seq : new.seq ≡ old.seq + 1
   pub tables : IsTrueStore g new

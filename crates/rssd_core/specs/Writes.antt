@@ -5,6 +5,7 @@ use Rattle.reuse_pool.specs.declared.unit.ReuseUnit.{ReuseUnit}
 use Rattle.page_codec.specs.declared.place.Place.{Place}
 use Rattle.page_codec.specs.Geometry.{unit_page, unit_at}
 use Rattle.page_codec.specs.Puts.{first_slot}
+use Rattle.page_codec.specs.Sectors.{zero_sector, InCells}
 use Rattle.rssd_core.specs.declared.device.Placed.{Placed}
 use Rattle.rssd_core.specs.declared.device.Placed.TheVariants.{First, Second, Declined}
 use Rattle.rssd_core.specs.Rules.{next_page, offer_of}
@@ -42,14 +43,19 @@ abbrev pub RecordAt : Numbers → DeviceView → ℕ → Place → ℕ → Type 
 RecordAt d view sector place kind =
     live_record d.geometry view.die.cells sector ≡ Some (record { place = place; header = record { sector = sector; seq = view.seq - 1; kind = kind } })
 
--- the sector's record of kind 1 stands in the offer's slot, over the unit's old cells
-pub record OverUnit (d : Numbers) (old new : DeviceView) (sector : ℕ) (unit : ReuseUnit) : Type 0 where
+-- The sector's record of kind 1 stands in the offer's slot. The unit carries the bytes, in the cells that a later write of them
+-- gives over the old ones.
+pub record OverUnit (d : Numbers) (old new : DeviceView) (sector : ℕ) (bytes : List ℕ) (unit : ReuseUnit) : Type 0 where
   pub live : RecordAt d new sector (slot_of_unit d unit) 1
   pub above : IsAbove (cells_of_unit d new unit) (cells_of_unit d old unit)
+  pub carries : d.meaning.decoding.second_carries (cells_of_unit d new unit) bytes ≡ true
+  pub gives : d.meaning.decoding.second_gives (cells_of_unit d old unit) bytes (cells_of_unit d new unit) ≡ true
 
--- the sector's record of this kind stands in slot 0 of the page that comes next by the book
-abbrev pub OnCleanPage : Numbers → DeviceView → DeviceView → ℕ → ℕ → Type 0
-OnCleanPage d old new sector kind = RecordAt d new sector (first_slot (named_page old.book (next_page old.book))) kind
+-- The sector's record of this kind stands in slot 0 of the page that comes next by the book. The main cells of that page are those
+-- that a first write of the bytes gives, and blank ones where the record says zeros.
+pub record OnCleanPage (d : Numbers) (old new : DeviceView) (sector : ℕ) (bytes : List ℕ) (kind : ℕ) : Type 0 where
+  pub live : RecordAt d new sector (first_slot (named_page old.book (next_page old.book))) kind
+  pub cells : InCells d.geometry d.meaning.decoding new.die.cells (named_page old.book (next_page old.book)) (record { sector = sector; seq = new.seq - 1; kind = kind }) bytes
 
 -- What a record on a clean page draws and erases: a number for each copy of a collection and one for itself, and the block that
 -- was to be erased for its page.
@@ -75,11 +81,11 @@ pub record WriteErased (d : Numbers) (old : DeviceView) (bytes : List ℕ) (new 
 
 -- A trim of a sector that holds bytes leaves a record of kind 3 on the page that comes next; any other changes nothing.
 abbrev pub TrimLeaves : Numbers → DeviceView → DeviceView → ℕ → Bool → Type 0
-TrimLeaves d old new sector true = OnCleanPage d old new sector 3 × GetsPage old new
+TrimLeaves d old new sector true = OnCleanPage d old new sector (zero_sector d.geometry) 3 × GetsPage old new
 TrimLeaves d old new sector false = new ≡ old
 
 -- where a write that was answered so went
 abbrev pub WentTo : Numbers → DeviceView → DeviceView → ℕ → List ℕ → Placed → Type 0
-WentTo d old new sector bytes First = (offer_of old.book ≡ None) × OnCleanPage d old new sector 1
-WentTo d old new sector bytes Second = OfferCarries d old bytes × ((unit : ReuseUnit) → offer_of old.book ≡ Some unit → OverUnit d old new sector unit)
-WentTo d old new sector bytes Declined = OfferDeclines d old bytes × OnCleanPage d old new sector 1
+WentTo d old new sector bytes First = (offer_of old.book ≡ None) × OnCleanPage d old new sector bytes 1
+WentTo d old new sector bytes Second = OfferCarries d old bytes × ((unit : ReuseUnit) → offer_of old.book ≡ Some unit → OverUnit d old new sector bytes unit)
+WentTo d old new sector bytes Declined = OfferDeclines d old bytes × OnCleanPage d old new sector bytes 1

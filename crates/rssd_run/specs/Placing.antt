@@ -22,5 +22,5 @@ pub record PlacedExactly (d : Numbers) (e : Event) (sector : ℕ) (row : List �
   pub second : (e.reply ≡ Second) ↔ (NoFailure e × OfferCarries d e.before.device row)
   pub declined : (e.reply ≡ Declined) ↔ (NoFailure e × OfferDeclines d e.before.device row)
   pub first : (e.reply ≡ First) ↔ (NoFailure e × (offer_of e.before.device.book ≡ None))
-  pub over_unit : e.reply ≡ Second → (unit : ReuseUnit) → offer_of e.before.device.book ≡ Some unit → OverUnit d e.before.device e.after.device sector unit
-  pub on_clean : (e.reply ≡ Declined) ⊎ (e.reply ≡ First) → OnCleanPage d e.before.device e.after.device sector 1
+  pub over_unit : e.reply ≡ Second → (unit : ReuseUnit) → offer_of e.before.device.book ≡ Some unit → OverUnit d e.before.device e.after.device sector row unit
+  pub on_clean : (e.reply ≡ Declined) ⊎ (e.reply ≡ First) → OnCleanPage d e.before.device e.after.device sector row 1

@@ -113,8 +113,8 @@ pub record PlacedSo (d : Numbers) (e : Event) (sector : ℕ) (row : List ℕ) : 
   pub second : (e.reply ≡ Second) ↔ ((e.reply ≡ Fault → ⊥) × OfferCarries d e.before.device row)
   pub declined : (e.reply ≡ Declined) ↔ ((e.reply ≡ Fault → ⊥) × OfferDeclines d e.before.device row)
   pub first : (e.reply ≡ First) ↔ ((e.reply ≡ Fault → ⊥) × (offer_of e.before.device.book ≡ None))
-  pub over_unit : e.reply ≡ Second → (unit : ReuseUnit) → offer_of e.before.device.book ≡ Some unit → OverUnit d e.before.device e.after.device sector unit
-  pub on_clean : (e.reply ≡ Declined) ⊎ (e.reply ≡ First) → OnCleanPage d e.before.device e.after.device sector 1
+  pub over_unit : e.reply ≡ Second → (unit : ReuseUnit) → offer_of e.before.device.book ≡ Some unit → OverUnit d e.before.device e.after.device sector row unit
+  pub on_clean : (e.reply ≡ Declined) ⊎ (e.reply ≡ First) → OnCleanPage d e.before.device e.after.device sector row 1
 
 -- the book moves by uses of rules, the next seq as they draw it, and the tally by what they moved
 pub record PlayedBook (d : Numbers) (e : Event) : Type 0 where

@@ -1,7 +1,7 @@
 -- The sizes of a striped sector as the code has them, and what the sector means.
-use Rattle.std.specs.Prelude.{◌≡◌, ℕ, ◌*◌, ◌/◌, ◌≤◌, ◌<◌, ◌^◌, Bool, List}
+use Rattle.std.specs.Prelude.{◌≡◌, ℕ, ◌*◌, ◌/◌, ◌≤◌, ◌<◌, ◌^◌, ◌&&◌, Bool, List}
 use Rattle.striped.specs.declared.chunks.Layout.{Layout}
-use Rattle.striped.specs.Striping.{striping, chunks, page_bytes, decoded, carries}
+use Rattle.striped.specs.Striping.{striping, chunks, page_bytes, blank_page, decoded, carries, gives}
 use Rattle.striped.specs.Meaning.{Meaning}
 
 -- a layout for messages of k bits in n cells, and a sector of so many bytes
@@ -27,9 +27,9 @@ pub record IsFitting (k m n bytes : ℕ) : Type 0 where
   pub most_bytes : bytes ≤ 512
   pub small : n * (8 * bytes) < 2 ^ 31
 
--- what a striped sector means, by what its codes decode cells to
-abbrev pub meaning_of : (k m n bytes generations : ℕ) → (List Bool → List Bool) → (List Bool → List Bool) → Meaning
-meaning_of k m n bytes generations f g = record {
+-- what a striped sector means, by what its codes decode cells to (f, g) and which cells they give (a, b)
+abbrev pub meaning_of : (k m n bytes generations : ℕ) (f : List Bool → List Bool) (a : List Bool → List Bool → List Bool → Bool) (g : List Bool → List Bool) (b : List Bool → List Bool → List Bool → Bool) → Meaning
+meaning_of k m n bytes generations f a g b = record {
   sector_bytes = bytes;
   page_bytes = page_bytes (striping k m n bytes);
   used_cells = chunks (striping k m n bytes) * m;
@@ -38,7 +38,8 @@ meaning_of k m n bytes generations f g = record {
   decoding = record {
     first = decoded (striping k m m bytes) m f;
     second = decoded (striping k m n bytes) n g;
-    first_carries = carries (striping k m m bytes) m f;
     second_carries = carries (striping k m n bytes) n g;
+    first_gives = λ page sector. carries (striping k m m bytes) m f page sector && gives (striping k m m bytes) m a (blank_page (striping k m m bytes)) sector page;
+    second_gives = gives (striping k m n bytes) n b;
   };
 }

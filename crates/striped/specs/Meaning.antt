@@ -2,12 +2,15 @@
 use Rattle.std.specs.Prelude.{◌≡◌, ℕ, ◌+◌, ◌*◌, ◌^◌, ◌<◌, ◌≤◌, Bool, true, List, length, slice_index}
 use Rattle.cell_bits.specs.Cells.{IsAbove, charge_at}
 
--- what a page (first) and a unit (second) decode to, and whether they carry a sector
+-- What a page (first) and a unit (second) decode to, whether a unit carries a sector, and which cells the scheme gives.
 pub record Decoding : Type 0 where
   pub first : List ℕ → List ℕ
   pub second : List ℕ → List ℕ
-  pub first_carries : List ℕ → List ℕ → Bool
   pub second_carries : List ℕ → List ℕ → Bool
+  -- whether these are the main bytes that a first write of a sector gives a page: page, sector
+  pub first_gives : List ℕ → List ℕ → Bool
+  -- whether these are the main bytes that a later write of a sector gives a unit: old unit, sector, new unit
+  pub second_gives : List ℕ → List ℕ → List ℕ → Bool
 
 -- the numbers of a scheme, and what it makes of cells; it uses the first used_cells cells of each page
 pub record Meaning : Type 0 where
@@ -23,9 +26,9 @@ pub record IsSector (meaning : Meaning) (sector : List ℕ) : Type 0 where
   pub long : length sector ≡ meaning.sector_bytes
   pub bytes : (k : ℕ) → slice_index sector k < 2 ^ 8
 
--- what carries a sector decodes to it
+-- what a first write gives for a sector decodes to it, and so does a unit that carries it
 pub record Decodes (meaning : Meaning) : Type 0 where
-  pub first : (page sector : List ℕ) → IsSector meaning sector → meaning.decoding.first_carries page sector ≡ true → meaning.decoding.first page ≡ sector
+  pub first : (page sector : List ℕ) → IsSector meaning sector → meaning.decoding.first_gives page sector ≡ true → meaning.decoding.first page ≡ sector
   pub second : (unit sector : List ℕ) → IsSector meaning sector → meaning.decoding.second_carries unit sector ≡ true → meaning.decoding.second unit ≡ sector
 
 -- the new unit is above the old one and carries the sector

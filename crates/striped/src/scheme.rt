@@ -32,7 +32,7 @@ pub trait Scheme {
     fn first(&mut self, sector: &[u8], page: &mut [u8])
         requires sector { length sector.now ≡ (meaning self.old).sector_bytes }
         requires page { length page.old ≡ (meaning self.old).page_bytes }
-        ensures carries { (meaning self.old).decoding.first_carries page.new sector.now ≡ true }
+        ensures gives { (meaning self.old).decoding.first_gives page.new sector.now ≡ true }
         ensures rest { (cell : ℕ) → (meaning self.old).used_cells ≤ cell → charge_at page.new cell ≡ 0 }
         ensures same { meaning self.new ≡ meaning self.old };
 
@@ -48,6 +48,7 @@ pub trait Scheme {
         requires unit { length unit.old ≡ (meaning self.old).span * (meaning self.old).page_bytes }
         requires sector { length sector.now ≡ (meaning self.old).sector_bytes }
         ensures carried { result ≡ Carry.Carried → CarriesOver (meaning self.old) unit.old unit.new sector.now }
+        ensures gives { result ≡ Carry.Carried → (meaning self.old).decoding.second_gives unit.old sector.now unit.new ≡ true }
         ensures rest { result ≡ Carry.Carried → KeepsRest (meaning self.old) unit.old unit.new }
         ensures declined { result ≡ Carry.Declined → NoneCarries (meaning self.old) unit.old sector.now }
         ensures kept { result ≡ Carry.Declined → unit.new ≡ unit.old }

@@ -1,7 +1,7 @@
 //! What a code promises: `over` charges cells so that they carry the message, and declines exactly
 //! where no cells above the old ones do. The codes know nothing of pages, sectors or dies.
 
-ghost use Rattle.std.specs.Prelude.{◌≡◌, ℕ, ◌*◌, ◌≤◌, ◌<◌, ◌^◌, List, Bool, length, IfSome, IfNone};
+ghost use Rattle.std.specs.Prelude.{◌≡◌, ℕ, ◌*◌, ◌≤◌, ◌<◌, ◌^◌, List, Bool, true, length, IfSome, IfNone};
 ghost use Rattle.wom_code.specs.Cells.{Carries, NoneCarries};
 ghost use Rattle.wom_code.specs.Groups.{chunk_of};
 ghost use Rattle.wom_code.specs.Packed.{IsRow, cells_of, words_for};
@@ -22,8 +22,8 @@ pub trait WomCode<const K: usize, const N: usize> {
     /// The message that cells carry.
     ghost decoding: { Self → List Bool → List Bool };
 
-    /// Which cells it gives over old ones for a message: old cells, message, given cells.
-    ghost gives: { Self → List Bool → List Bool → List Bool → Type 0 };
+    /// Whether these are the cells that it gives over old ones for a message: old cells, message, given cells.
+    ghost gives: { Self → List Bool → List Bool → List Bool → Bool };
 
     /// Reads the message that `N` cells carry into the `K` bits of `msg`.
     fn decode(&self, cells: &[bool], msg: &mut [bool])
@@ -38,10 +38,11 @@ pub trait WomCode<const K: usize, const N: usize> {
         requires message { length msg.now ≡ K }
         requires out { length out.old ≡ N }
         ensures carried { result ≡ Carry.Carried → Carries (decoding self.old) old.now msg.now out.new }
-        ensures given { result ≡ Carry.Carried → gives self.old old.now msg.now out.new }
+        ensures given { result ≡ Carry.Carried → gives self.old old.now msg.now out.new ≡ true }
         ensures declined { result ≡ Carry.Declined → NoneCarries (decoding self.old) N old.now msg.now }
         ensures kept { result ≡ Carry.Declined → out.new ≡ out.old }
-        ensures same_code { (cells : List Bool) → decoding self.new cells ≡ decoding self.old cells };
+        ensures same_code { (cells : List Bool) → decoding self.new cells ≡ decoding self.old cells }
+        ensures same_cells { (before message after : List Bool) → gives self.new before message after ≡ gives self.old before message after };
 }
 
 /// A code that also works on packed rows: cell `i` is bit `i % 64` of word `i / 64`, and the bits
@@ -61,10 +62,11 @@ pub trait PackedCode<const K: usize, const N: usize>: WomCode<K, N> {
         requires out { length out.old ≡ words_for N }
         ensures row { result ≡ Carry.Carried → IsRow N out.new }
         ensures carried { result ≡ Carry.Carried → Carries (Self.decoding self.old) (cells_of N old.now) (cells_of K msg.now) (cells_of N out.new) }
-        ensures given { result ≡ Carry.Carried → Self.gives self.old (cells_of N old.now) (cells_of K msg.now) (cells_of N out.new) }
+        ensures given { result ≡ Carry.Carried → Self.gives self.old (cells_of N old.now) (cells_of K msg.now) (cells_of N out.new) ≡ true }
         ensures declined { result ≡ Carry.Declined → NoneCarries (Self.decoding self.old) N (cells_of N old.now) (cells_of K msg.now) }
         ensures kept { result ≡ Carry.Declined → out.new ≡ out.old }
-        ensures same_code { (cells : List Bool) → Self.decoding self.new cells ≡ Self.decoding self.old cells };
+        ensures same_code { (cells : List Bool) → Self.decoding self.new cells ≡ Self.decoding self.old cells }
+        ensures same_cells { (before message after : List Bool) → Self.gives self.new before message after ≡ Self.gives self.old before message after };
 
     /// `decode` on up to sixteen chunks side by side in one word: chunk `j` has the `N` cells from bit `j * N` on,
     /// and its message stands in the `K` bits from bit `j * K` on.
@@ -93,9 +95,11 @@ pub trait PackedCode<const K: usize, const N: usize>: WomCode<K, N> {
         requires messages { count * K ≤ 64 }
         requires cells { count * N ≤ 64 }
         ensures carried { IfSome result (λ new. (j : ℕ) → j < count → Carries (Self.decoding self.old) (chunk_of N cells j) (chunk_of K messages j) (chunk_of N new j)) }
+        ensures given { IfSome result (λ new. (j : ℕ) → j < count → Self.gives self.old (chunk_of N cells j) (chunk_of K messages j) (chunk_of N new j) ≡ true) }
         ensures narrow { IfSome result (λ new. new < 2 ^ (count * N)) }
         ensures declined { IfNone result ((j : ℕ) × (j < count) × NoneCarries (Self.decoding self.old) N (chunk_of N cells j) (chunk_of K messages j)) }
         ensures same_code { (row : List Bool) → Self.decoding self.new row ≡ Self.decoding self.old row }
+        ensures same_cells { (before message after : List Bool) → Self.gives self.new before message after ≡ Self.gives self.old before message after }
     {
         let mut new = 0;
         for j in 0..count {
