@@ -8,7 +8,7 @@ use Rattle.rssd_core.specs.DeviceValue.{Numbers, DeviceView, DeviceValue}
 use Rattle.rssd_core.specs.Failures.{Tells}
 use Rattle.rssd_core.specs.Moves.{MovesBook, MovesSeq, WhereCut, CollectAtCut}
 use Rattle.rssd_core.specs.Outcomes.{Holds, WriteFault, TrimFault, WriteFaultMay, TrimFaultMay, RisesSealed, WriteAtCut}
-use Rattle.rssd_core.specs.Writes.{GetsPage, TakesOver, WriteErased, TrimLeaves}
+use Rattle.rssd_core.specs.Writes.{OnCleanPage, GetsPage, TakesOver, WriteErased, TrimLeaves}
 use Rattle.rssd_run.specs.ArrayWithCuts.{ArrayState, On, Off}
 use Rattle.rssd_run.specs.View.{Event, IsOn, IsOff, NoFailure}
 use Rattle.rssd_run.specs.Held.{Tallies, plus}
@@ -79,8 +79,12 @@ over_draws_plus base old new t = record { drawn = t.drawn; erases = t.erases }
 pub erased_plus : (d : Numbers) (base : Tallies) (old new : DeviceView) (row : List ℕ) → WriteErased d old row new → WriteErased d (plus base old) row (plus base new)
 erased_plus d base old new row w = record { over = w.over; clean = w.clean }
 
+pub clean_plus : {sector kind : ℕ} {bytes : List ℕ} → (d : Numbers) (base : Tallies) (old new : DeviceView)
+    → OnCleanPage d old new sector bytes kind → OnCleanPage d (plus base old) (plus base new) sector bytes kind
+clean_plus d base old new clean = record { live = clean.live; cells = clean.cells }
+
 pub trim_plus_leaves : (d : Numbers) (base : Tallies) (old new : DeviceView) (sector : ℕ) (held : Bool) → TrimLeaves d old new sector held → TrimLeaves d (plus base old) (plus base new) sector held
-trim_plus_leaves d base old new sector true t = (t.0, gets_plus base old new t.1)
+trim_plus_leaves d base old new sector true t = (clean_plus d base old new t.0, gets_plus base old new t.1)
 trim_plus_leaves d base old new sector false t = ap (plus base) t
 
 -- ---- the book after a fault, by whether the device is stopped

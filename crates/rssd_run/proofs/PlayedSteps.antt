@@ -24,7 +24,7 @@ use Rattle.rssd_run.specs.Step.{IsStep}
 use Rattle.rssd_run.specs.Played.{IsPlayed, WroteSo, WriteFailed, ReadSo, ReadWithFault, TrimmedSo, TrimFailed, PlacedSo, PlayedBook, IsPlayedStep}
 use Rattle.rssd_core.specs.Outcomes.{Holds, Idled, IdleFault}
 use Rattle.rssd_run.proofs.Came.{change_rose, read_rose, passed_went, went_tells, change_failed_tells, read_failed_tells}
-use Rattle.rssd_run.proofs.Parts.{not_refused, keeps, plus_book, plus_seq, gets_plus, over_draws_plus, erased_plus, trim_plus_leaves, write_book_so, trim_book_so}
+use Rattle.rssd_run.proofs.Parts.{not_refused, keeps, plus_book, plus_seq, clean_plus, gets_plus, over_draws_plus, erased_plus, trim_plus_leaves, write_book_so, trim_book_so}
 use Rattle.rssd_run.proofs.Still.{keeps_cells, same_book, same_seq}
 use Rattle.rssd_run.proofs.CommandSteps.{moves_plus, unfinished_plus, bounded}
 use Rattle.rssd_run.proofs.WriteSteps.{event_of, sector_in, bytes_in, must_not, offered_both, over_plus, neither}
@@ -98,7 +98,7 @@ played_first d base old new sector bytes a =
       declined = (λ h. cc, λ h. absurd (none-some h.1.0 (sym a.wrote.place.0 ∙ h.1.1)));
       first = (λ h. (λ f. cc, a.wrote.place.0), λ h. refl);
       over_unit = λ h. cc;
-      on_clean = λ h. a.wrote.place.1;
+      on_clean = λ h. clean_plus d base old.view new.view a.wrote.place.1;
     } in
     record {
       row = ap On a.wrote.rows;
@@ -125,7 +125,7 @@ played_second d base old new sector bytes a =
       second = (λ h. (λ f. cc, a.wrote.place.0), λ h. refl);
       declined = (λ h. cc, λ h. absurd (offered_both d old.view (filled_up d.geometry.sector_bytes bytes) a.wrote.place.0 h.1));
       first = (λ h. cc, λ h. absurd (none-some a.wrote.place.0.0 (sym h.1 ∙ a.wrote.place.0.1)));
-      over_unit = λ h unit offered. over_plus d base old.view new.view sector unit (a.wrote.place.1 unit offered);
+      over_unit = λ h unit offered. over_plus d base old.view new.view sector (filled_up d.geometry.sector_bytes bytes) unit (a.wrote.place.1 unit offered);
       on_clean = neither (λ h. cc) (λ h. cc);
     } in
     record {
@@ -154,7 +154,7 @@ played_declined d base old new sector bytes a =
       declined = (λ h. (λ f. cc, a.wrote.place.0), λ h. refl);
       first = (λ h. cc, λ h. absurd (none-some a.wrote.place.0.0 (sym h.1 ∙ a.wrote.place.0.1)));
       over_unit = λ h. cc;
-      on_clean = λ h. a.wrote.place.1;
+      on_clean = λ h. clean_plus d base old.view new.view a.wrote.place.1;
     } in
     record {
       row = ap On a.wrote.rows;

@@ -20,7 +20,7 @@ use Rattle.rssd_run.specs.Held.{Tallies, plus, on, off, Calm}
 use Rattle.rssd_run.specs.Placing.{IsTried, PlacedExactly}
 use Rattle.rssd_run.specs.Step.{IsStep}
 use Rattle.rssd_run.proofs.Came.{went_lowers, none_came, ACutCame, change_came, AReadCame, read_came, change_rose, read_rose, went_tells, went_power, change_failed_tells, read_failed_tells}
-use Rattle.rssd_run.proofs.Parts.{not_refused, no_fault, keeps, plus_book, plus_seq, gets_plus, over_draws_plus, erased_plus, write_book_so}
+use Rattle.rssd_run.proofs.Parts.{not_refused, no_fault, keeps, plus_book, plus_seq, clean_plus, gets_plus, over_draws_plus, erased_plus, write_book_so}
 
 abbrev pub event_of : Line → Reply → View → View → Event
 event_of line reply before after = record { line = line; reply = reply; before = before; after = after }
@@ -62,8 +62,9 @@ offered_both d view row carries declines =
     let same : carries.0 ≡ declines.0 = ap (unit_in carries.0) (sym carries.1 ∙ declines.1) in
     declines.2 (rw (sym same) carries.2)
 
-pub over_plus : (d : Numbers) (base : Tallies) (old new : DeviceView) (sector : ℕ) (unit : ReuseUnit) → OverUnit d old new sector unit → OverUnit d (plus base old) (plus base new) sector unit
-over_plus d base old new sector unit over = record { live = over.live; above = over.above }
+pub over_plus : (d : Numbers) (base : Tallies) (old new : DeviceView) (sector : ℕ) (bytes : List ℕ) (unit : ReuseUnit)
+    → OverUnit d old new sector bytes unit → OverUnit d (plus base old) (plus base new) sector bytes unit
+over_plus d base old new sector bytes unit over = record { live = over.live; above = over.above; carries = over.carries; gives = over.gives }
 
 pub neither : {A B C : Type 0} → (A → ⊥) → (B → ⊥) → A ⊎ B → C
 neither f g (inl a) = absurd (f a)
@@ -80,7 +81,7 @@ wrote_first d base old new sector bytes tried power holds w =
       declined = (λ h. cc, λ h. absurd (none-some h.1.0 (sym w.place.0 ∙ h.1.1)));
       first = (λ h. (none, w.place.0), λ h. refl);
       over_unit = λ h. cc;
-      on_clean = λ h. w.place.1;
+      on_clean = λ h. clean_plus d base old.view new.view w.place.1;
     } in
     record {
       row = ap On w.rows;
@@ -115,7 +116,7 @@ wrote_second d base old new sector bytes tried power holds w =
       second = (λ h. (none, w.place.0), λ h. refl);
       declined = (λ h. cc, λ h. absurd (offered_both d old.view (filled_up d.geometry.sector_bytes bytes) w.place.0 h.1));
       first = (λ h. cc, λ h. absurd (none-some w.place.0.0 (sym h.1 ∙ w.place.0.1)));
-      over_unit = λ h unit offered. over_plus d base old.view new.view sector unit (w.place.1 unit offered);
+      over_unit = λ h unit offered. over_plus d base old.view new.view sector (filled_up d.geometry.sector_bytes bytes) unit (w.place.1 unit offered);
       on_clean = neither (λ h. cc) (λ h. cc);
     } in
     record {
@@ -152,7 +153,7 @@ wrote_declined d base old new sector bytes tried power holds w =
       declined = (λ h. (none, w.place.0), λ h. refl);
       first = (λ h. cc, λ h. absurd (none-some w.place.0.0 (sym h.1 ∙ w.place.0.1)));
       over_unit = λ h. cc;
-      on_clean = λ h. w.place.1;
+      on_clean = λ h. clean_plus d base old.view new.view w.place.1;
     } in
     record {
       row = ap On w.rows;
