@@ -1,15 +1,18 @@
 -- The two results of the flip code: above the old cells, what they decode to, and their charge.
-use Rattle.std.proofs.Common.{◌≡◌, ℕ, suc, ◌+◌, ◌-◌, ◌<◌, ◌≤◌, ◌↔◌, Bool, true, false, not, ◌&&◌, cond, List, ◌∷◌, ◌++◌, length, set, take, drop, nat_eq, sym, ◌∙◌, ap, subst, refl, inl, inr, arith}
+use Rattle.std.proofs.Common.{◌≡◌, ℕ, suc, ◌+◌, ◌-◌, ◌<◌, ◌≤◌, ◌↔◌, Bool, true, false, not, ◌&&◌, cond, List, ◌∷◌, ◌++◌}
+use Rattle.std.proofs.Common.{length, set, take, drop, nat_eq, nat_le, sym, ◌∙◌, ap, subst, refl, inl, inr, arith}
 use Rattle.std.proofs.lemmas.Bool.{cases_lt, cases_eq, and_parts, and_from, true≢false, not-true, lt-ltb, ltb-true}
 use Rattle.std.proofs.lemmas.List.{get_or-take, get_or-drop, get_or_append_left, get_or-append_right, take_at, get_or_past, get_or-set_same, get_or-set_other, length-set, ext_get_or, length-take, length-append, length-drop}
 use Rattle.std.proofs.lemmas.List.Sums.{sum_by-cons, sum_by-append}
 use Rattle.wom_code.specs.Cells.{cell_at, IsAbove, Carries, NoneCarries, charge_of}
 use Rattle.wom_code.specs.Packed.{IsRow, word_bit, cells_of}
 use Rattle.wom_code.specs.Turned.{turned_by, turned_false}
-use Rattle.wom_code.specs.Flip.{flip_message, flip_cells, IsFewest, IsChoice}
+use Rattle.wom_code.specs.Tests.{is_same, is_above}
+use Rattle.wom_code.specs.Flip.{flip_message, flip_cells, IsFewest, IsChoice, is_as_few, is_straight_on_tie, is_fewest}
 use Rattle.wom_code.proofs.PackedLemmas.{get_or-cells_of, length-cells_of, same_cells, take-cells_of}
 use Rattle.wom_code.proofs.FrontLemmas.{IsLaid, laid_front, laid_rest, laid_row}
 use Rattle.wom_code.proofs.TableCodes.{IsWritten}
+use Rattle.wom_code.proofs.TestLemmas.{is_same_to, is_same_from, is_above_to, is_above_from, implied_to, implied_from, at_most_to, at_most_from}
 use Rattle.wom_code.proofs.TurnedLemmas.{length-turned, turned_twice, charge-turned}
 
 -- ---- cell by cell
@@ -183,6 +186,37 @@ choice_fewest k old message flagged straight turned f t c = record {
   tie = λ a e. tie_at k old message flagged straight turned f t c a e;
 }
 
+-- ---- the test of the fewest
+
+pub is_fewest_from : (k : ℕ) (old message new : List Bool) → IsFewest k old message new → is_fewest k old message new ≡ true
+is_fewest_from k old message new f =
+    and_from _ _ (is_same_from new _ f.one_of_two)
+    (and_from _ _ (few false) (and_from _ _ (few true) (implied_from _ _ (λ t. is_same_from new _ (tie_of (and_parts _ _ t))))))
+  where
+    few : (flag : Bool) → is_as_few k old message new flag ≡ true
+    few flag = implied_from _ _ (λ t. at_most_from _ _ (f.fewest flag (is_above_to _ old t)))
+
+    tie_of : (is_above (flip_cells k old message false) old ≡ true) × (nat_le (charge_of (flip_cells k old message false)) (charge_of new) ≡ true) → new ≡ flip_cells k old message false
+    tie_of t = f.tie (is_above_to _ old t.0) (at_most_to _ _ t.1)
+
+each_flag : (test : Bool → Bool) → test false ≡ true → test true ≡ true → (flag : Bool) → test flag ≡ true
+each_flag test off on true = on
+each_flag test off on false = off
+
+pub is_fewest_to : (k : ℕ) (old message new : List Bool) → is_fewest k old message new ≡ true → IsFewest k old message new
+is_fewest_to k old message new t =
+    let few_as : Bool → Bool = is_as_few k old message new in
+    let on_tie : Bool = is_straight_on_tie k old message new in
+    let parts = and_parts (is_same new (flip_cells k old message (cell_at new k))) (few_as false && (few_as true && on_tie)) t in
+    let more = and_parts (few_as false) (few_as true && on_tie) parts.1 in
+    let last = and_parts (few_as true) on_tie more.1 in
+    let few : (flag : Bool) → few_as flag ≡ true = each_flag few_as more.0 last.0 in
+    record {
+      one_of_two = is_same_to new _ parts.0;
+      fewest = λ flag a. at_most_to _ _ (implied_to _ _ (few flag) (is_above_from _ old a));
+      tie = λ a e. is_same_to new _ (implied_to _ _ last.1 (and_from _ _ (is_above_from _ old a) (at_most_from _ _ e)));
+    }
+
 -- ---- packed rows
 
 -- bits that are laid over the first cells, and then the flag
@@ -252,12 +286,13 @@ unflagged k n old message mid flagged straight turned ones f fits t c j e = reco
 
 -- what the packed call writes
 pub flip_over : (k n : ℕ) (old message mid out : List ℕ) (flagged straight turned f : Bool) → k < n → IsTested k (cells_of n old) (cells_of k message) flagged straight turned →
-    IsChoice flagged straight turned (charge_of (cells_of k message)) k f → IsLaid f k n old message mid → IsFlagged k f mid out → IsWritten (flip_message k) (IsFewest k) k n old message out
+    IsChoice flagged straight turned (charge_of (cells_of k message)) k f → IsLaid f k n old message mid → IsFlagged k f mid out → IsWritten (flip_message k) (is_fewest k) k n old message out
 flip_over k n old message mid out flagged straight turned f fits t c j g =
     let cells = flagged_cells f k n old message mid out fits j g in
     record {
       row = flagged_row f k n old message mid out fits (laid_row f k n old message mid j) g;
       carries = subst (Carries (flip_message k) (cells_of n old) (cells_of k message)) (sym cells)
           (choice_carries k (cells_of n old) (cells_of k message) flagged straight turned (charge_of (cells_of k message)) f t c);
-      given = subst (IsFewest k (cells_of n old) (cells_of k message)) (sym cells) (choice_fewest k (cells_of n old) (cells_of k message) flagged straight turned f t c);
+      given = ap (is_fewest k (cells_of n old) (cells_of k message)) cells
+          ∙ is_fewest_from k (cells_of n old) (cells_of k message) _ (choice_fewest k (cells_of n old) (cells_of k message) flagged straight turned f t c);
     }

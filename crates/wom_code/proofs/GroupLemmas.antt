@@ -110,6 +110,12 @@ carries_as now before old old' message message' new new' same o m n carries = re
   decodes = ap before (sym n) ∙ sym (same new) ∙ carries.decodes ∙ m;
 }
 
+-- the same of a code that gives the same cells
+pub given_as : (now before : List Bool → List Bool → List Bool → Bool) (old old' message message' new new' : List Bool) → ((a b c : List Bool) → now a b c ≡ before a b c) →
+    old ≡ old' → message ≡ message' → new ≡ new' → now old message new ≡ true → before old' message' new' ≡ true
+given_as now before old old' message message' new new' same o m n given =
+    ap (λ a. before a message' new') (sym o) ∙ ap (λ b. before old b new') (sym m) ∙ ap (before old message) (sym n) ∙ sym (same old message new) ∙ given
+
 -- the same of a code that decodes alike
 pub none_as : (n : ℕ) (now before : List Bool → List Bool) (cells cells' message message' : List Bool) →
     ((row : List Bool) → now row ≡ before row) → cells ≡ cells' → message ≡ message' → NoneCarries now n cells message → NoneCarries before n cells' message'

@@ -6,5 +6,6 @@ pub mod OneWord
 pub mod PackedLemmas
 pub mod PlainLemmas
 pub mod TableCodes
+pub mod TestLemmas
 pub mod TurnedLemmas
 pub mod WordTests

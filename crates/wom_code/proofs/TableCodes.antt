@@ -1,22 +1,22 @@
 -- A code whose rows are one word: what its table says of numbers holds of the rows.
-use Rattle.std.proofs.Common.{◌≡◌, ℕ, ◌^◌, ◌<◌, ◌≤◌, List, [], ◌∷◌, Bool, length, get_or, set, sym, subst}
+use Rattle.std.proofs.Common.{◌≡◌, ℕ, ◌^◌, ◌<◌, ◌≤◌, List, [], ◌∷◌, Bool, true, length, get_or, set, sym, subst}
 use Rattle.wom_code.specs.Cells.{Carries, NoneCarries}
 use Rattle.wom_code.specs.Packed.{IsRow, cells_of}
 use Rattle.wom_code.proofs.OneWord.{word_alone, set_alone, row_alone}
 
 -- the word that a table has over an old word for a message
-pub record IsEntry (decode : List Bool → List Bool) (gives : List Bool → List Bool → List Bool → Type 0) (k n old message next : ℕ) : Type 0 where
+pub record IsEntry (decode : List Bool → List Bool) (gives : List Bool → List Bool → List Bool → Bool) (k n old message next : ℕ) : Type 0 where
   pub word : next < 2 ^ n
   pub carries : Carries decode (cells_of n (old ∷ [])) (cells_of k (message ∷ [])) (cells_of n (next ∷ []))
-  pub given : gives (cells_of n (old ∷ [])) (cells_of k (message ∷ [])) (cells_of n (next ∷ []))
+  pub given : gives (cells_of n (old ∷ [])) (cells_of k (message ∷ [])) (cells_of n (next ∷ [])) ≡ true
 
 -- the row that the table's word makes
-pub record IsWritten (decode : List Bool → List Bool) (gives : List Bool → List Bool → List Bool → Type 0) (k n : ℕ) (old message new : List ℕ) : Type 0 where
+pub record IsWritten (decode : List Bool → List Bool) (gives : List Bool → List Bool → List Bool → Bool) (k n : ℕ) (old message new : List ℕ) : Type 0 where
   pub row : IsRow n new
   pub carries : Carries decode (cells_of n old) (cells_of k message) (cells_of n new)
-  pub given : gives (cells_of n old) (cells_of k message) (cells_of n new)
+  pub given : gives (cells_of n old) (cells_of k message) (cells_of n new) ≡ true
 
-pub entry_written : (decode : List Bool → List Bool) (gives : List Bool → List Bool → List Bool → Type 0) (k n : ℕ) (old message out : List ℕ) (next : ℕ) →
+pub entry_written : (decode : List Bool → List Bool) (gives : List Bool → List Bool → List Bool → Bool) (k n : ℕ) (old message out : List ℕ) (next : ℕ) →
     0 < n → n ≤ 64 → length old ≡ 1 → length message ≡ 1 → length out ≡ 1 → IsEntry decode gives k n (get_or old 0 0) (get_or message 0 0) next →
     IsWritten decode gives k n old message (set out 0 next)
 entry_written decode gives k n old message out next some fits o m len e =

@@ -2,7 +2,7 @@
 //! charged. The result with fewer charged cells is taken, and on a tie the one without the flag.
 
 ghost use Rattle.std.specs.Prelude.{◌≡◌, ◌+◌, ◌-◌, ◌≤◌, ◌<◌, ◌^◌, ◌&&◌, Bool, true, false, not, IfSome, IfNone};
-ghost use Rattle.wom_code.specs.Flip.{IsChoice, IsFewest, flip_message};
+ghost use Rattle.wom_code.specs.Flip.{IsChoice, flip_message, is_fewest};
 
 use crate::code::{Carry, FromBlank, PackedCode, WomCode};
 use crate::front::{count_charged_words, fits_front, lay_front, take_front};
@@ -44,7 +44,7 @@ impl<const K: usize, const N: usize> Flip<K, N> {
 impl<const K: usize, const N: usize> WomCode<K, N> for Flip<K, N> {
     ghost decoding = { λ code. flip_message K };
 
-    ghost gives = { λ code. IsFewest K };
+    ghost gives = { λ code. is_fewest K };
 
     fn decode(&self, cells: &[bool], msg: &mut [bool]) {
         write_turned(&cells[..K], cells[K], msg);

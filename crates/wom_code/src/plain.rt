@@ -1,6 +1,7 @@
 //! The plain code: the message stands in the first `K` cells, and the others stay.
 
-ghost use Rattle.std.specs.Prelude.{◌≡◌, ◌≤◌, ◌++◌, Bool, List, take, drop};
+ghost use Rattle.std.specs.Prelude.{◌≤◌, take};
+ghost use Rattle.wom_code.specs.Plain.{plain_gives};
 
 use crate::code::{Carry, FromBlank, PackedCode, WomCode};
 use crate::front::{fits_front, lay_front, take_front};
@@ -26,7 +27,7 @@ impl<const K: usize, const N: usize> Plain<K, N> {
 impl<const K: usize, const N: usize> WomCode<K, N> for Plain<K, N> {
     ghost decoding = { λ code cells. take K cells };
 
-    ghost gives = { λ code old message new. new ≡ message ++ drop K old };
+    ghost gives = { λ code. plain_gives K };
 
     fn decode(&self, cells: &[bool], msg: &mut [bool]) {
         msg.copy_from_slice(&cells[..K]);

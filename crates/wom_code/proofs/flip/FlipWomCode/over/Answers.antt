@@ -2,8 +2,8 @@
 use Rattle.std.proofs.Common.{◌≡◌, ℕ, ◌<◌, Bool, List, ◌++◌, drop, set, length, sym, ◌∙◌, ap, subst, arith}
 use Rattle.wom_code.specs.Cells.{cell_at, Carries}
 use Rattle.wom_code.specs.Turned.{turned_by}
-use Rattle.wom_code.specs.Flip.{flip_message, flip_cells, IsChoice, IsFewest}
-use Rattle.wom_code.proofs.FlipLemmas.{flip_none, flip_written, choice_carries, choice_fewest}
+use Rattle.wom_code.specs.Flip.{flip_message, flip_cells, IsChoice, is_fewest}
+use Rattle.wom_code.proofs.FlipLemmas.{flip_none, flip_written, choice_carries, choice_fewest, is_fewest_from}
 use Rattle.wom_code.proofs.flip.FlipWomCode.over.Goals as goal
 
 written : (k n : ℕ) (old message copied front : List Bool) (f : Bool) → k < n → length old ≡ n → length message ≡ k → copied ≡ old → front ≡ turned_by f message →
@@ -39,8 +39,9 @@ returns-clause-carried g c = λ answer.
 
 pub returns-clause-given : goal.returns-clause-given
 returns-clause-given g c = λ answer.
-    subst (IsFewest g.row.K c.args.old.now c.args.msg.now)
-    (sym (written g.row.K g.row.N c.args.old.now c.args.msg.now _ _ c.in-Some.flag c.args.self.now.fits c.requires.old c.requires.message c.copy_from_slice.ensures.after c.write_turned.ensures))
+    ap (is_fewest g.row.K c.args.old.now c.args.msg.now)
+    (written g.row.K g.row.N c.args.old.now c.args.msg.now _ _ c.in-Some.flag c.args.self.now.fits c.requires.old c.requires.message c.copy_from_slice.ensures.after c.write_turned.ensures)
+    ∙ is_fewest_from g.row.K c.args.old.now c.args.msg.now _
     (choice_fewest g.row.K c.args.old.now c.args.msg.now (cell_at c.args.old.now g.row.K) c.fits-straight.result c.fits-turned.result c.in-Some.flag
     (record {
       len = c.requires.message;

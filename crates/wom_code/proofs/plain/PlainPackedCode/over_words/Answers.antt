@@ -7,6 +7,7 @@ use Rattle.wom_code.specs.Turned.{turned_by, turned_false}
 use Rattle.wom_code.proofs.FrontLemmas.{IsLaid, laid_over, laid_row, laid_cells}
 use Rattle.wom_code.proofs.PackedLemmas.{length-cells_of, take-cells_of}
 use Rattle.wom_code.proofs.PlainLemmas.{front_carries, front_none}
+use Rattle.wom_code.proofs.TestLemmas.{is_same_from}
 use Rattle.wom_code.proofs.plain.PlainPackedCode.over_words.Goals as goal
 
 -- the first cells of the old row, by the list of its cells, and the message as it is
@@ -43,6 +44,7 @@ returns-clause-carried g c = λ answer.
 
 pub returns-clause-given : goal.returns-clause-given
 returns-clause-given g c = λ answer.
-    written g.row.K g.row.N c.args.old.now c.args.msg.now c.lay_front.new.out
+    is_same_from (cells_of g.row.N c.lay_front.new.out) _
+    (written g.row.K g.row.N c.args.old.now c.args.msg.now c.lay_front.new.out
     (laid_over false g.row.K g.row.N c.args.old.now c.args.msg.now c.copy_from_slice.new.self c.lay_front.new.out c.args.self.now.fits c.requires.old
-    (c.fits_front.ensures.0 c.if-not-fits_front.false) c.copy_from_slice.ensures.after c.lay_front.ensures.length c.lay_front.ensures.laid)
+    (c.fits_front.ensures.0 c.if-not-fits_front.false) c.copy_from_slice.ensures.after c.lay_front.ensures.length c.lay_front.ensures.laid))

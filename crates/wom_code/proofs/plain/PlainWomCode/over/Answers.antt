@@ -4,6 +4,7 @@ use Rattle.wom_code.specs.Cells.{IsAbove, Carries}
 use Rattle.std.proofs.lemmas.Bool.{true≢false}
 use Rattle.wom_code.specs.Turned.{turned_false}
 use Rattle.wom_code.proofs.PlainLemmas.{front_carries, front_none}
+use Rattle.wom_code.proofs.TestLemmas.{is_same_from}
 use Rattle.wom_code.proofs.plain.PlainWomCode.over.Goals as goal
 
 written : (k : _) (old message a b : List Bool) → a ≡ old → b ≡ message → b ++ drop k a ≡ message ++ drop k old
@@ -20,3 +21,7 @@ returns-clause-carried g c = λ answer.
     (sym (written g.row.K c.args.old.now c.args.msg.now _ _ c.copy_from_slice.ensures.after c.copy_from_slice-2.ensures.after))
     (front_carries g.row.K c.args.old.now c.args.msg.now c.requires.message
     (subst (λ m. IsAbove m (take g.row.K c.args.old.now)) (turned_false c.args.msg.now) (c.fits.ensures.0 c.if-not-fits.false)))
+
+pub returns-clause-given : goal.returns-clause-given
+returns-clause-given g c = λ answer.
+    is_same_from _ _ (written g.row.K c.args.old.now c.args.msg.now _ _ c.copy_from_slice.ensures.after c.copy_from_slice-2.ensures.after)
