@@ -1,5 +1,6 @@
 -- Whole bytes of a row as a number: bit i of the number is bit i mod 8 of its byte i / 8.
-use Rattle.std.proofs.Common.{◌≡◌, ℕ, zero, suc, ◌+◌, ◌-◌, ◌*◌, ◌/◌, ◌%◌, ◌^◌, ◌<◌, ◌≤◌, inl, inr, List, [], ◌∷◌, ◌++◌, take, length, slice_index, sym, ap, ap₂, ◌∙◌, arith, subst, refl, length-take, get_or-take}
+use Rattle.std.proofs.Common.{◌≡◌, ℕ, zero, suc, ◌+◌, ◌-◌, ◌*◌, ◌/◌, ◌%◌, ◌^◌, ◌<◌, ◌≤◌, inl, inr, List, [], ◌∷◌, ◌++◌, take, length, slice_index, sym, ap, ap₂, ◌∙◌, arith, subst, refl}
+use Rattle.std.proofs.Common.{length-take, get_or-take}
 use Rattle.std.specs.Int.{bit_at, w16, w32, w64, to_le_bytes, from_le_bytes}
 use Rattle.std.proofs.lemmas.Nat.{le_bytes_8}
 use Rattle.std.proofs.lemmas.Bool.{cases_lt}
@@ -18,7 +19,8 @@ abbrev pub eight : ℕ → ℕ → ℕ → ℕ → ℕ → ℕ → ℕ → ℕ �
 eight a b c d e f g h = a ∷ b ∷ c ∷ d ∷ e ∷ f ∷ g ∷ h ∷ []
 
 pub each_byte : (row : List ℕ) (start count a b c d e f g h : ℕ) → IsByte row start count 0 a → IsByte row start count 1 b → IsByte row start count 2 c → IsByte row start count 3 d →
-    IsByte row start count 4 e → IsByte row start count 5 f → IsByte row start count 6 g → IsByte row start count 7 h → (k : ℕ) → k < 8 → IsByte row start count k (slice_index (eight a b c d e f g h) k)
+    IsByte row start count 4 e → IsByte row start count 5 f → IsByte row start count 6 g → IsByte row start count 7 h → (k : ℕ) → k < 8
+    → IsByte row start count k (slice_index (eight a b c d e f g h) k)
 each_byte row start count a b c d e f g h p q r s t u v w zero l = p
 each_byte row start count a b c d e f g h p q r s t u v w (suc zero) l = q
 each_byte row start count a b c d e f g h p q r s t u v w (suc (suc zero)) l = r

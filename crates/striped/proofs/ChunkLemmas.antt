@@ -82,7 +82,8 @@ chunk_stays s n new old pb j P e some h agrees all =
     let inner : c % s.page_cells < s.page_cells = mod_below c s.page_cells some in
     let within : j * s.page_cells + s.page_cells ≤ 8 * page_bytes s = chunk_within s j h in
     let at : place (8 * page_bytes s) s.page_cells j c ≡ 8 * page_bytes s * (c / s.page_cells) + (j * s.page_cells + c % s.page_cells) = omega arith in
-    let same : charge_at new (8 * page_bytes s * (c / s.page_cells) + (j * s.page_cells + c % s.page_cells)) ≡ charge_at old (8 * page_bytes s * (c / s.page_cells) + (j * s.page_cells + c % s.page_cells)) =
+    let same : charge_at new (8 * page_bytes s * (c / s.page_cells) + (j * s.page_cells + c % s.page_cells))
+    ≡ charge_at old (8 * page_bytes s * (c / s.page_cells) + (j * s.page_cells + c % s.page_cells)) =
     subst (λ p. Agrees new old (8 * p) P) e agrees (c / s.page_cells) (j * s.page_cells + c % s.page_cells) (omega arith) (all (c % s.page_cells) inner) in
     ap (charge_at new) at ∙ same ∙ ap (charge_at old) (sym at))
 
@@ -159,6 +160,32 @@ none_carries n now before cells cells' message message' same e f none new len ca
     })
 
 -- ---- the step of a write
+
+pub given_more : (s : Striping) (span i pb : ℕ) (before now : List Bool → List Bool → List Bool → Bool) (first old new cells out message sector : List ℕ) →
+    IsWrite s.page_cells span i pb old new cells out → s.unit_cells ≡ span * s.page_cells → pb ≡ page_bytes s → i < chunks s →
+    now (cells_of s.unit_cells cells) (cells_of s.message_bits message) (cells_of s.unit_cells out) ≡ true →
+    ((j : ℕ) → j < s.message_bits → word_bit message j ≡ charge_at sector (i * s.message_bits + j)) →
+    ((a b c : List Bool) → now a b c ≡ before a b c) → chunk_cells s s.unit_cells old i ≡ chunk_cells s s.unit_cells first i →
+    ((j : ℕ) → j < i → before (chunk_cells s s.unit_cells first j) (chunk_message s sector j) (chunk_cells s s.unit_cells old j) ≡ true) →
+    (j : ℕ) → j < i + 1 → before (chunk_cells s s.unit_cells first j) (chunk_message s sector j) (chunk_cells s s.unit_cells new j) ≡ true
+given_more s span i pb before now first old new cells out message sector w spans page h gives taken same stays earlier j l =
+    elim (cases_lt j i) [
+      | inl k ↦
+          let up : j * s.page_cells + s.page_cells ≤ i * s.page_cells = row_fits j s.page_cells i s.page_cells k (omega arith) in
+          ap (before (chunk_cells s s.unit_cells first j) (chunk_message s sector j))
+          (chunk_stays s s.unit_cells new old pb j (λ c. (c < i * s.page_cells) ⊎ (i * s.page_cells + s.page_cells ≤ c)) page w.some (omega arith) w.others (λ r t. inl (omega arith)))
+          ∙ earlier j k
+      | inr m ↦
+          let e : i ≡ j = omega arith in
+          let was : cells_of s.unit_cells cells ≡ chunk_cells s s.unit_cells first i = chunk_is s s.unit_cells old i pb cells page (λ c t. w.taken c (omega arith)) ∙ stays in
+          let is : cells_of s.unit_cells out ≡ chunk_cells s s.unit_cells new i = chunk_is s s.unit_cells new i pb out page (λ c t. sym (w.put c (omega arith))) in
+          let told : cells_of s.message_bits message ≡ chunk_message s sector i = message_is s sector i message taken in
+          subst (λ x. before (chunk_cells s s.unit_cells first x) (chunk_message s sector x) (chunk_cells s s.unit_cells new x) ≡ true) e
+          (sym (ap (λ a. before a (cells_of s.message_bits message) (cells_of s.unit_cells out)) was
+          ∙ ap (λ b. before (chunk_cells s s.unit_cells first i) b (cells_of s.unit_cells out)) told
+          ∙ ap (before (chunk_cells s s.unit_cells first i) (chunk_message s sector i)) is)
+          ∙ sym (same (cells_of s.unit_cells cells) (cells_of s.message_bits message) (cells_of s.unit_cells out)) ∙ gives)
+    ]
 
 pub carried_more : (s : Striping) (span i pb : ℕ) (before now : List Bool → List Bool) (old new cells out message sector : List ℕ) →
     IsWrite s.page_cells span i pb old new cells out → s.unit_cells ≡ span * s.page_cells → pb ≡ page_bytes s → i < chunks s →

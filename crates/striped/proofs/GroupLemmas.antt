@@ -116,6 +116,32 @@ group_carried s n done count now before old new sector cells messages out w e ca
           ∙ sym (group_message s sector messages done (j - done) (λ i l. w.told ((j - done) * s.message_bits + i) (in_group s.message_bits (j - done) count i few l))))
     ]
 
+pub group_given : (s : Striping) (n done count : ℕ) (now before : List Bool → List Bool → List Bool → Bool) (first old new sector : List ℕ) (cells messages out : ℕ) →
+    IsGroup n s.message_bits done count old new sector cells messages out → s.page_cells ≡ n →
+    ((j : ℕ) → j < count → now (chunk_of n cells j) (chunk_of s.message_bits messages j) (chunk_of n out j) ≡ true) →
+    ((a b c : List Bool) → now a b c ≡ before a b c) → ((c : ℕ) → done * n ≤ c → charge_at old c ≡ charge_at first c) →
+    ((j : ℕ) → j < done → before (chunk_cells s n first j) (chunk_message s sector j) (chunk_cells s n old j) ≡ true) →
+    (j : ℕ) → j < done + count → before (chunk_cells s n first j) (chunk_message s sector j) (chunk_cells s n new j) ≡ true
+group_given s n done count now before first old new sector cells messages out w e gives same rest earlier j h =
+    elim (cases_lt j done) [
+      | inl l ↦ ap (before (chunk_cells s n first j) (chunk_message s sector j)) (kept_cells s n new old done j e l w.below) ∙ earlier j l
+      | inr m ↦
+          let few : j - done < count = omega arith in
+          let at : done + (j - done) ≡ j = omega arith in
+          let was : chunk_cells s n first (done + (j - done)) ≡ chunk_of n cells (j - done) =
+          group_cells s n first cells done (j - done) e (λ c l.
+          sym (rest (done * n + ((j - done) * n + c)) (omega arith)) ∙ sym (w.taken ((j - done) * n + c) (in_group n (j - done) count c few l))) in
+          let is : chunk_cells s n new (done + (j - done)) ≡ chunk_of n out (j - done) =
+          group_cells s n new out done (j - done) e (λ c l. w.put ((j - done) * n + c) (in_group n (j - done) count c few l)) in
+          let told : chunk_message s sector (done + (j - done)) ≡ chunk_of s.message_bits messages (j - done) =
+          group_message s sector messages done (j - done) (λ i l. w.told ((j - done) * s.message_bits + i) (in_group s.message_bits (j - done) count i few l)) in
+          subst (λ y. before (chunk_cells s n first y) (chunk_message s sector y) (chunk_cells s n new y) ≡ true) at
+          (ap (λ a. before a (chunk_message s sector (done + (j - done))) (chunk_cells s n new (done + (j - done)))) was
+          ∙ ap (λ b. before (chunk_of n cells (j - done)) b (chunk_cells s n new (done + (j - done)))) told
+          ∙ ap (before (chunk_of n cells (j - done)) (chunk_of s.message_bits messages (j - done))) is
+          ∙ sym (same (chunk_of n cells (j - done)) (chunk_of s.message_bits messages (j - done)) (chunk_of n out (j - done))) ∙ gives (j - done) few)
+    ]
+
 -- a chunk of the group that declines
 pub group_declined : (s : Striping) (n done count j : ℕ) (now before : List Bool → List Bool) (bytes sector : List ℕ) (cells messages : ℕ) → s.page_cells ≡ n → j < count →
     ((i : ℕ) → i < count * n → bit_at cells i ≡ charge_at bytes (done * n + i)) →
@@ -149,7 +175,8 @@ group_read s n done count decode bytes old new cells messages e some len taken d
         let j : ℕ = (x - done * s.message_bits) / s.message_bits in
         let r : ℕ = (x - done * s.message_bits) % s.message_bits in
         let short : (x - done * s.message_bits) % s.message_bits < s.message_bits = mod_below (x - done * s.message_bits) s.message_bits some in
-        let whole : (x - done * s.message_bits) / s.message_bits * s.message_bits + (x - done * s.message_bits) % s.message_bits ≡ x - done * s.message_bits = div-add-mod' (x - done * s.message_bits) s.message_bits in
+        let whole : (x - done * s.message_bits) / s.message_bits * s.message_bits + (x - done * s.message_bits) % s.message_bits ≡ x - done * s.message_bits =
+        div-add-mod' (x - done * s.message_bits) s.message_bits in
         let chunk : (x - done * s.message_bits) / s.message_bits < count = chunk_in s.message_bits count (x - done * s.message_bits) some few in
         let at : done * s.message_bits + ((x - done * s.message_bits) / s.message_bits * s.message_bits + (x - done * s.message_bits) % s.message_bits) ≡ x = omega arith in
         let place : (done + (x - done * s.message_bits) / s.message_bits) * s.message_bits + (x - done * s.message_bits) % s.message_bits ≡ x =
@@ -190,22 +217,28 @@ some_product a b h l = omega (arith, mul-le 1 1 a b h l)
 
 -- ---- a write of one group after the other
 
--- the chunks before chunk done carry their messages, all cells are above the first ones, and those of later chunks are those
-pub record IsBegun (s : Striping) (n done : ℕ) (decode : List Bool → List Bool) (first now sector : List ℕ) : Type 0 where
+-- the chunks before chunk done carry their messages, in cells that the code gives, all cells are above the first ones, and those of
+-- later chunks are those
+pub record IsBegun (s : Striping) (n done : ℕ) (decode : List Bool → List Bool) (given : List Bool → List Bool → List Bool → Bool) (first now sector : List ℕ) : Type 0 where
   pub carried : (j : ℕ) → j < done → decode (chunk_cells s n now j) ≡ chunk_message s sector j
+  pub gives : (j : ℕ) → j < done → given (chunk_cells s n first j) (chunk_message s sector j) (chunk_cells s n now j) ≡ true
   pub above : IsAbove now first
   pub rest : (c : ℕ) → done * n ≤ c → charge_at now c ≡ charge_at first c
 
-pub begun_more : (s : Striping) (n done count : ℕ) (now before : List Bool → List Bool) (first old new sector : List ℕ) → s.page_cells ≡ n → 1 ≤ n → ((row : List Bool) → now row ≡ before row) →
-    IsBegun s n done before first old sector → WritesGroup n s.message_bits done count now old new sector → IsBegun s n (done + count) before first new sector
-begun_more s n done count now before first old new sector e some same b w = record {
+pub begun_more : (s : Striping) (n done count : ℕ) (now before : List Bool → List Bool) (gives_now gives_before : List Bool → List Bool → List Bool → Bool) (first old new sector : List ℕ)
+    → s.page_cells ≡ n → 1 ≤ n
+    → ((row : List Bool) → now row ≡ before row) → ((a b c : List Bool) → gives_now a b c ≡ gives_before a b c) → IsBegun s n done before gives_before first old sector
+    → WritesGroup n s.message_bits done count now gives_now old new sector → IsBegun s n (done + count) before gives_before first new sector
+begun_more s n done count now before gives_now gives_before first old new sector e some same same_gives b w = record {
+  gives = group_given s n done count gives_now gives_before first old new sector w.cells w.messages w.out w.group e w.gives same_gives b.rest b.gives;
   carried = group_carried s n done count now before old new sector w.cells w.messages w.out w.group e w.carries same b.carried;
   above = above_trans new old first (group_above n s.message_bits done count old new sector w.cells w.messages w.out now some w.group w.carries) b.above;
   rest = λ c h. let parts : (done + count) * n ≡ done * n + count * n = both_parts done count n in w.group.above c (omega arith) ∙ b.rest c (omega arith);
 }
 
-pub begun_declines : (s : Striping) (n done count : ℕ) (now before : List Bool → List Bool) (first old sector : List ℕ) → s.page_cells ≡ n → ((row : List Bool) → now row ≡ before row) → done + count ≤ chunks s →
-    IsBegun s n done before first old sector → DeclinesGroup n s.message_bits done count now old sector →
+pub begun_declines : {given : List Bool → List Bool → List Bool → Bool} → (s : Striping) (n done count : ℕ) (now before : List Bool → List Bool) (first old sector : List ℕ) → s.page_cells ≡ n
+    → ((row : List Bool) → now row ≡ before row) → done + count ≤ chunks s →
+    IsBegun s n done before given first old sector → DeclinesGroup n s.message_bits done count now old sector →
     (i : ℕ) × (i < chunks s) × NoneCarries before n (chunk_cells s n first i) (chunk_message s sector i)
 begun_declines s n done count now before first old sector e same fits b d =
     let within = d.within in (

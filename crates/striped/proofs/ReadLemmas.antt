@@ -10,13 +10,25 @@ use Rattle.std.proofs.lemmas.List.Sums.{list_all-from_AllPass}
 use Rattle.cell_bits.specs.Cells.{charge_at, is_charged}
 use Rattle.wom_code.specs.Packed.{word_bit, cells_of}
 use Rattle.wom_code.proofs.PackedLemmas.{get_or-cells_of}
-use Rattle.striped.specs.Striping.{Striping, chunks, chunk_cells, chunk_message, IsCarried, carries, decoded_bit}
+use Rattle.striped.specs.Striping.{Striping, chunks, chunk_cells, chunk_message, IsCarried, carries, IsGiven, gives, decoded_bit}
 use Rattle.striped.proofs.RowSteps.{on_page}
+
+pub gives_from : (s : Striping) (n : ℕ) (given : List Bool → List Bool → List Bool → Bool) (old sector new : List ℕ) → IsGiven s n given old sector new → gives s n given old sector new ≡ true
+unfolding gives
+gives_from s n given old sector new h =
+    list_all-from_AllPass (λ j. given (chunk_cells s n old j) (chunk_message s sector j) (chunk_cells s n new j)) (range_with_len 0 (chunks s))
+    (All-from_get_or (λ j. given (chunk_cells s n old j) (chunk_message s sector j) (chunk_cells s n new j) ≡ true) (range_with_len 0 (chunks s)) 0 (λ i l.
+    let p : i < chunks s = omega (arith, length-range_with_len 0 (chunks s)) in
+    subst (λ j. given (chunk_cells s n old j) (chunk_message s sector j) (chunk_cells s n new j) ≡ true) (sym (get_or-range_with_len 0 (chunks s) i 0 p ∙ plus i)) (h i p)))
+  where
+    plus : (i : ℕ) → 0 + i ≡ i
+    plus i = omega arith
 
 pub carries_from : (s : Striping) (n : ℕ) (decode : List Bool → List Bool) (bytes sector : List ℕ) → IsCarried s n decode bytes sector → carries s n decode bytes sector ≡ true
 unfolding carries
 carries_from s n decode bytes sector h =
-    list_all-from_AllPass (λ j. pointwise beq (decode (chunk_cells s n bytes j)) (chunk_message s sector j)) (range_with_len 0 (chunks s)) (All-from_get_or (λ j. pointwise beq (decode (chunk_cells s n bytes j)) (chunk_message s sector j) ≡ true) (range_with_len 0 (chunks s)) 0 (λ i l.
+    list_all-from_AllPass (λ j. pointwise beq (decode (chunk_cells s n bytes j)) (chunk_message s sector j)) (range_with_len 0 (chunks s))
+    (All-from_get_or (λ j. pointwise beq (decode (chunk_cells s n bytes j)) (chunk_message s sector j) ≡ true) (range_with_len 0 (chunks s)) 0 (λ i l.
     let p : i < chunks s = omega (arith, length-range_with_len 0 (chunks s)) in
     subst (λ j. pointwise beq (decode (chunk_cells s n bytes j)) (chunk_message s sector j) ≡ true) (sym (get_or-range_with_len 0 (chunks s) i 0 p)) (at i p)))
   where

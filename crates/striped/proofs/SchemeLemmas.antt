@@ -7,20 +7,18 @@ use Rattle.std.proofs.lemmas.Nat.Bits.{bit_at-zero}
 use Rattle.cell_bits.specs.Cells.{charge_at, is_charged, IsAbove}
 use Rattle.cell_bits.proofs.Above.{keeps}
 use Rattle.wom_code.specs.Cells.{cell_at, NoneCarries}
-use Rattle.striped.specs.Striping.{Striping, striping, page_bytes, chunks, chunk_cells, chunk_message, IsCarried, carries}
+use Rattle.striped.specs.Striping.{Striping, striping, page_bytes, chunks, chunk_cells, chunk_message, IsCarried, carries, IsGiven, gives}
 use Rattle.striped.specs.Layouts.{meaning_of}
 use Rattle.striped.proofs.ChunkLemmas.{length-chunk_cells, get_or-chunk_cells, length-chunk_message, place}
 use Rattle.striped.specs.Carried.{carries_to}
-use Rattle.striped.proofs.ReadLemmas.{carries_from}
+use Rattle.striped.proofs.ReadLemmas.{carries_from, gives_from}
 use Rattle.striped.proofs.RowSteps.{charge_at-past}
 
 -- the codes decode as before, so the scheme does
-pub same_meaning : (k m n b g : ℕ) (f f' h h' : List Bool → List Bool) → ((row : List Bool) → f' row ≡ f row) → ((row : List Bool) → h' row ≡ h row) →
-    meaning_of k m n b g f' h' ≡ meaning_of k m n b g f h
-same_meaning k m n b g f f' h h' p q =
-    let e : f' ≡ f = λ i row. p row i in
-    let d : h' ≡ h = λ i row. q row i in
-    ap₂ (meaning_of k m n b g) e d
+pub same_meaning : (k m n b g : ℕ) (f f' : List Bool → List Bool) (a a' : List Bool → List Bool → List Bool → Bool) (h h' : List Bool → List Bool) (c c' : List Bool → List Bool → List Bool → Bool)
+    → ((row : List Bool) → f' row ≡ f row) → ((x y z : List Bool) → a' x y z ≡ a x y z) → ((row : List Bool) → h' row ≡ h row) → ((x y z : List Bool) → c' x y z ≡ c x y z)
+    → meaning_of k m n b g f' a' h' c' ≡ meaning_of k m n b g f a h c
+same_meaning k m n b g f f' a a' h h' c c' p q r s = λ i. meaning_of k m n b g (λ row. p row i) (λ x y z. q x y z i) (λ row. r row i) (λ x y z. s x y z i)
 
 chunk_above : (s : Striping) (n : ℕ) (new old : List ℕ) (i : ℕ) → IsAbove new old → (c : ℕ) → cell_at (chunk_cells s n old i) c ≡ true → cell_at (chunk_cells s n new i) c ≡ true
 chunk_above s n new old i above c h =
@@ -56,6 +54,12 @@ pub carries_at : (k m m' n b b' : ℕ) (decode : List Bool → List Bool) (bytes
     IsCarried (striping k m n b) n decode bytes sector → carries (striping k m' n b') n decode bytes sector ≡ true
 carries_at k m m' n b b' decode bytes sector p q h =
     subst (λ (s : Striping). carries s n decode bytes sector ≡ true) (ap₂ (λ (x y : ℕ). striping k x n y) p q) (carries_from (striping k m n b) n decode bytes sector h)
+
+pub gives_at : (k m m' n b b' : ℕ) (given : List Bool → List Bool → List Bool → Bool) (old old' sector new : List ℕ) → m ≡ m' → b ≡ b' → old ≡ old' →
+    IsGiven (striping k m n b) n given old sector new → gives (striping k m' n b') n given old' sector new ≡ true
+gives_at k m m' n b b' given old old' sector new p q o h =
+    subst (λ (old : List ℕ). gives (striping k m' n b') n given old sector new ≡ true) o
+    (subst (λ (s : Striping). gives s n given old sector new ≡ true) (ap₂ (λ (x y : ℕ). striping k x n y) p q) (gives_from (striping k m n b) n given old sector new h))
 
 -- no unit cells above the old ones carry the sector
 pub none_above_at : (k m m' n b b' : ℕ) (decode : List Bool → List Bool) (old sector : List ℕ) → m ≡ m' → b ≡ b' →

@@ -1,5 +1,5 @@
 -- Cells that carry a sector decode to it.
-use Rattle.std.specs.Prelude.{◌≡◌, ℕ, ◌+◌, ◌*◌, ◌/◌, ◌%◌, ◌^◌, ◌<◌, ◌≤◌, Bool, true, false, List, [], ◌∷◌, length, map, ◌==◌, slice_index, refl}
+use Rattle.std.specs.Prelude.{◌≡◌, ℕ, ◌+◌, ◌*◌, ◌/◌, ◌%◌, ◌^◌, ◌<◌, ◌≤◌, Bool, true, false, List, [], ◌∷◌, length, map, ◌==◌, ◌&&◌, slice_index, refl}
 use Rattle.std.specs.Int.{bit_at, div_ceil}
 use Rattle.std.specs.List.{range_with_len}
 use Rattle.std.specs.Cmp.Lexicographic.{pointwise}
@@ -13,7 +13,7 @@ use Rattle.std.proofs.lemmas.List.Sums.{AllPass-from_list_all}
 use Rattle.std.proofs.lemmas.Nat.{div-add-mod', mod_below, row_fits, pow-add}
 use Rattle.std.proofs.lemmas.Nat.Bits.{bit_at-suc, bit_at-lt, bit_at-zero, same_from_bits_below}
 use Rattle.cell_bits.specs.Cells.{is_charged, AreBytes}
-use Rattle.striped.specs.Striping.{Striping, striping, number_of, chunks, chunk_cells, chunk_message, IsCarried, carries, decoded_bit, decoded}
+use Rattle.striped.specs.Striping.{Striping, striping, number_of, chunks, chunk_cells, chunk_message, blank_page, IsCarried, carries, IsGiven, gives, decoded_bit, decoded}
 use Rattle.striped.specs.Meaning.{Decodes}
 use Rattle.striped.specs.Layouts.{meaning_of}
 
@@ -26,8 +26,10 @@ number_bit (false ∷ bits) zero = ap (λ b. b == 1) zero_bit
   where
     zero_bit : bit_at (0 + 2 * number_of bits) 0 ≡ 0
     zero_bit = omega arith
-number_bit (true ∷ bits) (suc i) = let half : (1 + 2 * number_of bits) / 2 ≡ number_of bits = omega arith in ap (λ b. b == 1) (bit_at-suc (1 + 2 * number_of bits) i ∙ ap (λ n. bit_at n i) half) ∙ number_bit bits i
-number_bit (false ∷ bits) (suc i) = let half : (0 + 2 * number_of bits) / 2 ≡ number_of bits = omega arith in ap (λ b. b == 1) (bit_at-suc (0 + 2 * number_of bits) i ∙ ap (λ n. bit_at n i) half) ∙ number_bit bits i
+number_bit (true ∷ bits) (suc i) = let half : (1 + 2 * number_of bits) / 2 ≡ number_of bits =
+    omega arith in ap (λ b. b == 1) (bit_at-suc (1 + 2 * number_of bits) i ∙ ap (λ n. bit_at n i) half) ∙ number_bit bits i
+number_bit (false ∷ bits) (suc i) = let half : (0 + 2 * number_of bits) / 2 ≡ number_of bits =
+    omega arith in ap (λ b. b == 1) (bit_at-suc (0 + 2 * number_of bits) i ∙ ap (λ n. bit_at n i) half) ∙ number_bit bits i
 
 twice : (k : ℕ) → 2 ^ suc k ≡ 2 ^ k * 2
 twice k = let e : suc k ≡ k + 1 = omega arith in ap (λ n. 2 ^ n) e ∙ pow-add 2 k 1
@@ -73,7 +75,8 @@ decoded_is s n decode bytes sector len are h =
         ∙ sym (number_bit (map (λ t. decoded_bit s n decode bytes (8 * k + t)) (range_with_len 0 8)) i
         ∙ get_or-map-range_with_len (λ t. decoded_bit s n decode bytes (8 * k + t)) 0 8 i i false q (omega arith))
 
-    same : (k : ℕ) → k < s.sector_bytes → get_or sector k 0 ≡ get_or (map (λ k. number_of (map (λ t. decoded_bit s n decode bytes (8 * k + t)) (range_with_len 0 8))) (range_with_len 0 s.sector_bytes)) k 0
+    same : (k : ℕ) → k < s.sector_bytes → get_or sector k 0
+        ≡ get_or (map (λ k. number_of (map (λ t. decoded_bit s n decode bytes (8 * k + t)) (range_with_len 0 8))) (range_with_len 0 s.sector_bytes)) k 0
     same k p =
         same_from_bits_below 8 _ _ (are k) (narrow k) (λ i q. same_bit _ _ (bit_at-lt (slice_index sector k) i) (bit_at-lt _ i) (bit k i p q))
         ∙ sym (get_or-map-range_with_len (λ k. number_of (map (λ t. decoded_bit s n decode bytes (8 * k + t)) (range_with_len 0 8))) 0 s.sector_bytes k k 0 p (omega arith))
@@ -103,6 +106,20 @@ carries_to s n decode bytes sector e i p =
     pointwise_same _ _ (subst (λ j. pointwise beq (decode (chunk_cells s n bytes j)) (chunk_message s sector j) ≡ true) z
     (All-get_or (λ j. pointwise beq (decode (chunk_cells s n bytes j)) (chunk_message s sector j) ≡ true) (range_with_len 0 (chunks s)) i 0 (omega (arith, length-range_with_len 0 (chunks s))) all))
 
+pub gives_to : (s : Striping) (n : ℕ) (given : List Bool → List Bool → List Bool → Bool) (old sector new : List ℕ) → gives s n given old sector new ≡ true → IsGiven s n given old sector new
+unfolding gives
+gives_to s n given old sector new e i p =
+    let all = AllPass-from_list_all (λ j. given (chunk_cells s n old j) (chunk_message s sector j) (chunk_cells s n new j)) (range_with_len 0 (chunks s)) e in
+    let z : get_or (range_with_len 0 (chunks s)) i 0 ≡ i = get_or-range_with_len 0 (chunks s) i 0 p ∙ omega arith in
+    subst (λ j. given (chunk_cells s n old j) (chunk_message s sector j) (chunk_cells s n new j) ≡ true) z
+    (All-get_or (λ j. given (chunk_cells s n old j) (chunk_message s sector j) (chunk_cells s n new j) ≡ true) (range_with_len 0 (chunks s)) i 0
+    (omega (arith, length-range_with_len 0 (chunks s))) all)
+
+pub both_true : (a b : Bool) → (a && b) ≡ true → (a ≡ true) × (b ≡ true)
+both_true true true e = (refl, refl)
+both_true true false e = absurd (false≢true e)
+both_true false b e = absurd (false≢true e)
+
 -- the chunk of a bit is one of the chunks
 pub chunk_of_bit : (x k m : ℕ) → 0 < k → x < m → x / k < div_ceil m k
 chunk_of_bit x k m some h =
@@ -131,8 +148,11 @@ carried_decodes s n decode bytes sector some len are e =
     ∙ get_or-chunk_message s sector (x / s.message_bits) (x % s.message_bits) below ∙ ap (is_charged sector) whole)))
 
 -- so the striping's meaning is one
-pub decodes_law : (k m n bytes generations : ℕ) (f g : List Bool → List Bool) → 1 ≤ k → Decodes (meaning_of k m n bytes generations f g)
-decodes_law k m n bytes generations f g some = record {
-  first = λ page sector is e. carried_decodes (striping k m m bytes) m f page sector some is.long is.bytes e;
+pub decodes_law : (k m n bytes generations : ℕ) (f : List Bool → List Bool) (a : List Bool → List Bool → List Bool → Bool) (g : List Bool → List Bool) (b : List Bool → List Bool → List Bool → Bool)
+    → 1 ≤ k → Decodes (meaning_of k m n bytes generations f a g b)
+decodes_law k m n bytes generations f a g b some = record {
+  first = λ page sector is e.
+      carried_decodes (striping k m m bytes) m f page sector some is.long is.bytes
+      (both_true (carries (striping k m m bytes) m f page sector) (gives (striping k m m bytes) m a (blank_page (striping k m m bytes)) sector page) e).0;
   second = λ unit sector is e. carried_decodes (striping k m n bytes) n g unit sector some is.long is.bytes e;
 }

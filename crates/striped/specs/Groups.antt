@@ -1,5 +1,5 @@
 -- Chunks that stand side by side in a row, by words that hold their cells and their messages.
-use Rattle.std.specs.Prelude.{◌≡◌, ℕ, ◌+◌, ◌*◌, ◌≤◌, ◌<◌, Bool, List, length}
+use Rattle.std.specs.Prelude.{◌≡◌, ℕ, ◌+◌, ◌*◌, ◌≤◌, ◌<◌, Bool, true, List, length}
 use Rattle.std.specs.Int.{bit_at}
 use Rattle.cell_bits.specs.Cells.{charge_at}
 use Rattle.wom_code.specs.Cells.{Carries, NoneCarries}
@@ -14,13 +14,14 @@ pub record IsGroup (n k done count : ℕ) (old new sector : List ℕ) (cells mes
   pub below : (c : ℕ) → c < done * n → charge_at new c ≡ charge_at old c
   pub above : (c : ℕ) → done * n + count * n ≤ c → charge_at new c ≡ charge_at old c
 
--- the messages of the chunks were written over their cells, and no other cell changed
-pub record WritesGroup (n k done count : ℕ) (decode : List Bool → List Bool) (old new sector : List ℕ) : Type 0 where
+-- the messages of the chunks were written over their cells, in cells that the code gives, and no other cell changed
+pub record WritesGroup (n k done count : ℕ) (decode : List Bool → List Bool) (given : List Bool → List Bool → List Bool → Bool) (old new sector : List ℕ) : Type 0 where
   pub cells : ℕ
   pub messages : ℕ
   pub out : ℕ
   pub group : IsGroup n k done count old new sector cells messages out
   pub carries : (j : ℕ) → j < count → Carries decode (chunk_of n cells j) (chunk_of k messages j) (chunk_of n out j)
+  pub gives : (j : ℕ) → j < count → given (chunk_of n cells j) (chunk_of k messages j) (chunk_of n out j) ≡ true
 
 -- one of the chunks does not take its message
 pub record DeclinesGroup (n k done count : ℕ) (decode : List Bool → List Bool) (old sector : List ℕ) : Type 0 where

@@ -28,7 +28,8 @@ pub record IsFitting (k m n bytes : ℕ) : Type 0 where
   pub small : n * (8 * bytes) < 2 ^ 31
 
 -- what a striped sector means, by what its codes decode cells to (f, g) and which cells they give (a, b)
-abbrev pub meaning_of : (k m n bytes generations : ℕ) (f : List Bool → List Bool) (a : List Bool → List Bool → List Bool → Bool) (g : List Bool → List Bool) (b : List Bool → List Bool → List Bool → Bool) → Meaning
+abbrev pub meaning_of : (k m n bytes generations : ℕ) (f : List Bool → List Bool) (a : List Bool → List Bool → List Bool → Bool) (g : List Bool → List Bool)
+    (b : List Bool → List Bool → List Bool → Bool) → Meaning
 meaning_of k m n bytes generations f a g b = record {
   sector_bytes = bytes;
   page_bytes = page_bytes (striping k m n bytes);

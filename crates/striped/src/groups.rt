@@ -126,9 +126,10 @@ fn write_group<C: PackedCode<K, N>, const K: usize, const N: usize>(
     requires starts { done * K < 8 * length sector.now }
     requires here { here ≡ min (count * K) (8 * length sector.now - done * K) }
     requires blank { blank ≡ true → (i : ℕ) → done * N ≤ i → charge_at bytes.old i ≡ 0 }
-    ensures written { result ≡ Carry.Carried → WritesGroup N K done count (C.decoding code.old) bytes.old bytes.new sector.now }
+    ensures written { result ≡ Carry.Carried → WritesGroup N K done count (C.decoding code.old) (C.gives code.old) bytes.old bytes.new sector.now }
     ensures declined { result ≡ Carry.Declined → DeclinesGroup N K done count (C.decoding code.old) bytes.old sector.now }
     ensures same_code { (row : List Bool) → C.decoding code.new row ≡ C.decoding code.old row }
+    ensures same_cells { (before message after : List Bool) → C.gives code.new before message after ≡ C.gives code.old before message after }
 {
     let cells = old_cells(bytes, done * N, count * N, blank);
     let messages = take_messages(sector, done * K, count * K, here);
@@ -184,9 +185,10 @@ pub fn write_groups<C: PackedCode<K, N>, const K: usize, const N: usize>(
     requires few_bits { K ≤ N }
     requires few_cells { N ≤ 64 }
     requires blank { blank ≡ true → (i : ℕ) → charge_at bytes.old i ≡ 0 }
-    ensures written { result ≡ Carry.Carried → WritesChunks layout K N (C.decoding code.old) bytes.old bytes.new sector.now }
+    ensures written { result ≡ Carry.Carried → WritesChunks layout K N (C.decoding code.old) (C.gives code.old) bytes.old bytes.new sector.now }
     ensures declined { result ≡ Carry.Declined → DeclinesChunk layout K N (C.decoding code.old) bytes.old sector.now }
     ensures same_code { (row : List Bool) → C.decoding code.new row ≡ C.decoding code.old row }
+    ensures same_cells { (before message after : List Bool) → C.gives code.new before message after ≡ C.gives code.old before message after }
 {
     let group = group_of(N);
     let whole = 8 * sector.len() / K;

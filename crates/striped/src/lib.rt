@@ -4,10 +4,12 @@
 mod bytes;
 mod chunks;
 mod groups;
+mod laws;
 mod rows;
 mod scheme;
 mod stripes;
 
+pub use laws::{a_first_write_gives_each_chunk, a_later_write_gives_each_chunk};
 pub use scheme::Scheme;
 pub use stripes::{OutOfMemory, Striped};
 

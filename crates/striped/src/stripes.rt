@@ -64,8 +64,8 @@ impl<
         sector_bytes: u32,
     ) -> Result<Striped<F, S, K, M, N>, OutOfMemory>
         requires { IsFitting K M N sector_bytes }
-        ensures { let given = meaning_of K M N sector_bytes 2 (F.decoding first) (S.decoding second) in
-            IfOk result (λ s. meaning_of K M N s.sector_bytes s.generations (F.decoding s.first) (S.decoding s.second) ≡ given) }
+        ensures { let given = meaning_of K M N sector_bytes 2 (F.decoding first) (F.gives first) (S.decoding second) (S.gives second) in
+            IfOk result (λ s. meaning_of K M N s.sector_bytes s.generations (F.decoding s.first) (F.gives s.first) (S.decoding s.second) (S.gives s.second) ≡ given) }
     {
         Self::with_generations(alloc, first, second, sector_bytes, 2)
     }
@@ -81,8 +81,8 @@ impl<
         requires fitting { IsFitting K M N sector_bytes }
         requires at_least_two { 2 ≤ generations }
         requires at_most_three { generations ≤ 3 }
-        ensures { let given = meaning_of K M N sector_bytes generations (F.decoding first) (S.decoding second) in
-            IfOk result (λ s. meaning_of K M N s.sector_bytes s.generations (F.decoding s.first) (S.decoding s.second) ≡ given) }
+        ensures { let given = meaning_of K M N sector_bytes generations (F.decoding first) (F.gives first) (S.decoding second) (S.gives second) in
+            IfOk result (λ s. meaning_of K M N s.sector_bytes s.generations (F.decoding s.first) (F.gives s.first) (S.decoding s.second) (S.gives s.second) ≡ given) }
     {
         let layout = layout_of(K, M, N, sector_bytes);
         let unit = vec![in alloc; 0; layout.span * layout.page_bytes]?;
@@ -101,9 +101,9 @@ impl<F: FromBlank<K, M>, S: PackedCode<K, N>, const K: usize, const M: usize, co
     ghost use Rattle.striped.specs.Layouts.{meaning_of};
     ghost use Rattle.striped.specs.Carried.{decodes_law};
 
-    ghost meaning = { λ s. meaning_of K M N s.sector_bytes s.generations (F.decoding s.first) (S.decoding s.second) };
+    ghost meaning = { λ s. meaning_of K M N s.sector_bytes s.generations (F.decoding s.first) (F.gives s.first) (S.decoding s.second) (S.gives s.second) };
 
-    ghost decodes = { λ s. decodes_law K M N s.sector_bytes s.generations (F.decoding s.first) (S.decoding s.second) s.fitting.some_bits };
+    ghost decodes = { λ s. decodes_law K M N s.sector_bytes s.generations (F.decoding s.first) (F.gives s.first) (S.decoding s.second) (S.gives s.second) s.fitting.some_bits };
 
     fn sector_bytes(&self) -> u32 {
         self.sector_bytes

@@ -20,23 +20,28 @@ at_end i n k m x h a l = omega (arith, mul-le n k i k h (le_self k))
 pub overflow_mul-i : goal.overflow_mul-i
 overflow_mul-i g c =
     let fits : c.loop-i.i * c.args.layout.page_cells + c.args.layout.page_cells ≤ 8 * c.args.layout.page_bytes =
-    within (striping g.row.K c.args.layout.page_cells g.row.N (length c.args.sector.now)) c.loop-i.i c.args.layout.chunks c.args.layout.page_bytes c.requires.layout.chunks_are c.requires.layout.page_is c.loop-i-test.true in
+    within (striping g.row.K c.args.layout.page_cells g.row.N
+    (length c.args.sector.now)) c.loop-i.i c.args.layout.chunks c.args.layout.page_bytes c.requires.layout.chunks_are c.requires.layout.page_is c.loop-i-test.true in
     omega (arith, c.requires.layout.short_page)
 
 pub take_chunk-requires-clause-within : goal.take_chunk-requires-clause-within
 take_chunk-requires-clause-within g c =
-    within (striping g.row.K c.args.layout.page_cells g.row.N (length c.args.sector.now)) c.loop-i.i c.args.layout.chunks c.args.layout.page_bytes c.requires.layout.chunks_are c.requires.layout.page_is c.loop-i-test.true
+    within (striping g.row.K c.args.layout.page_cells g.row.N
+    (length c.args.sector.now)) c.loop-i.i c.args.layout.chunks c.args.layout.page_bytes c.requires.layout.chunks_are c.requires.layout.page_is c.loop-i-test.true
 
 pub put_message-requires-clause-starts : goal.put_message-requires-clause-starts
 put_message-requires-clause-starts g c =
-    let starts : c.loop-i.i * g.row.K < 8 * length c.args.sector.now = start_below (8 * length c.args.sector.now) g.row.K c.loop-i.i c.requires.layout.some_bits (omega (arith, c.requires.layout.chunks_are)) in
+    let starts : c.loop-i.i * g.row.K < 8 * length c.args.sector.now =
+    start_below (8 * length c.args.sector.now) g.row.K c.loop-i.i c.requires.layout.some_bits (omega (arith, c.requires.layout.chunks_are)) in
     omega (arith, c.loop-i.auto.sector)
 
 pub loop-i-preserved : goal.loop-i-preserved
 loop-i-preserved g c = record {
-  read = read_more (striping g.row.K c.args.layout.page_cells g.row.N (length c.args.sector.now)) g.row.N (g.C.WomCode.decoding c.args.code.now) c.args.bytes.now c.loop-i.sector c.put_message.new.sector
+  read =
+      read_more (striping g.row.K c.args.layout.page_cells g.row.N (length c.args.sector.now)) g.row.N (g.C.WomCode.decoding c.args.code.now) c.args.bytes.now c.loop-i.sector c.put_message.new.sector
       c.take_chunk.new.words c.decode_words.new.msg c.loop-i.i c.decode_words.ensures.message
-      (chunk_is (striping g.row.K c.args.layout.page_cells g.row.N (length c.args.sector.now)) g.row.N c.args.bytes.now c.loop-i.i c.args.layout.page_bytes c.take_chunk.new.words c.requires.layout.page_is
+      (chunk_is (striping g.row.K c.args.layout.page_cells g.row.N
+      (length c.args.sector.now)) g.row.N c.args.bytes.now c.loop-i.i c.args.layout.page_bytes c.take_chunk.new.words c.requires.layout.page_is
       (λ n h. c.take_chunk.ensures.taken n (omega (arith, c.requires.layout.spans))))
       (omega (arith, c.loop-i.auto.sector)) c.put_message.ensures.put c.put_message.ensures.below c.loop-i.invariant.read;
   are = λ k. (c.type_inv.sector k).fits;
@@ -44,7 +49,9 @@ loop-i-preserved g c = record {
 
 pub returns : goal.returns
 returns g c =
-    let all : 8 * length c.args.sector.now ≤ chunks (striping g.row.K c.args.layout.page_cells g.row.N (length c.args.sector.now)) * g.row.K = (div_ceil_times (8 * length c.args.sector.now) g.row.K c.requires.layout.some_bits).0 in
+    let all : 8 * length c.args.sector.now ≤ chunks (striping g.row.K c.args.layout.page_cells g.row.N (length c.args.sector.now)) * g.row.K =
+    (div_ceil_times (8 * length c.args.sector.now) g.row.K c.requires.layout.some_bits).0 in
     decoded_is (striping g.row.K c.args.layout.page_cells g.row.N (length c.args.sector.now)) g.row.N (g.C.WomCode.decoding c.args.code.now) c.args.bytes.now c.loop-i.sector
     (omega (arith, c.loop-i.auto.sector)) c.loop-i.invariant.are
-    (λ x l. c.loop-i.invariant.read x (at_end c.loop-i.i (chunks (striping g.row.K c.args.layout.page_cells g.row.N (length c.args.sector.now))) g.row.K (8 * length c.args.sector.now) x (omega (arith, c.requires.layout.chunks_are)) all l) l)
+    (λ x l. c.loop-i.invariant.read x (at_end c.loop-i.i (chunks (striping g.row.K c.args.layout.page_cells g.row.N (length c.args.sector.now))) g.row.K (8 * length c.args.sector.now) x
+    (omega (arith, c.requires.layout.chunks_are)) all l) l)

@@ -27,4 +27,5 @@ returns-in-Some-clause-written g c = λ answer. record {
     above = c.put_cells.ensures.above;
   };
   carries = c.in-Some.ensures.carried;
+  gives = c.in-Some.ensures.given;
 }

@@ -7,5 +7,7 @@ use Rattle.striped.proofs.groups.write_groups.Given as goal
 abbrev pub invariant-loop-turn : goal.invariant-loop-turn
 invariant-loop-turn g l = record {
   code : (row : List Bool) → g.C.WomCode.decoding l.code row ≡ g.C.WomCode.decoding l.fn.code row;
-  begun : IsBegun (striping g.row.K l.layout.page_cells g.row.N (length l.sector)) g.row.N (l.turn * l.group) (g.C.WomCode.decoding l.fn.code) l.fn.bytes l.bytes l.sector;
+  cells : (a b c : List Bool) → g.C.WomCode.gives l.code a b c ≡ g.C.WomCode.gives l.fn.code a b c;
+  begun : IsBegun (striping g.row.K l.layout.page_cells g.row.N (length l.sector)) g.row.N (l.turn * l.group) (g.C.WomCode.decoding l.fn.code)
+      (g.C.WomCode.gives l.fn.code) l.fn.bytes l.bytes l.sector;
 }
