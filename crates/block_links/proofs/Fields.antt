@@ -45,7 +45,8 @@ module _ (next prev : List ℕ) (home : List (Option ℕ)) (linked : IsLinked ne
     pub unlink_holds : Holds (set next before after) (set prev after before) (set home n None) (removed (lists_of next (length home)) n)
     unlink_holds = rw (before_at, after_at) (holds _ _ _ _ (unlinked next prev home (lists_of next (length home)) linked n listed.0 listed.1))
 
-  module _ (n b end last : ℕ) (bucket : b < length (lists_of next (length home))) (node : n < length home) (free : IsFree (lists_of next (length home)) n) (end_is : end ≡ length home + b) (reads_last : last ≡ get_or prev end last) where
+  module _ (n b end last : ℕ) (bucket : b < length (lists_of next (length home))) (node : n < length home) (free : IsFree (lists_of next (length home)) n) (end_is : end ≡ length home + b)
+      (reads_last : last ≡ get_or prev end last) where
     last_at : last ≡ get_or prev (length home + b) 0
     last_at = read_at prev (length home + b) last (omega (arith, linked.prev_len)) (rw (← end_is) reads_last)
 
@@ -83,7 +84,8 @@ module _ (next prev : List ℕ) (home : List (Option ℕ)) (linked : IsLinked ne
         )
 
 -- new fields hold empty lists
-module _ (next prev : List ℕ) (home : List (Option ℕ)) (nodes buckets : ℕ) (next_is : (length next ≡ nodes + buckets) × ((k : ℕ) → k < length next → get_or next k 0 ≡ k)) (prev_is : (length prev ≡ nodes + buckets) × ((k : ℕ) → k < length prev → get_or prev k 0 ≡ k)) (home_is : home ≡ replicate nodes None) where
+module _ (next prev : List ℕ) (home : List (Option ℕ)) (nodes buckets : ℕ) (next_is : (length next ≡ nodes + buckets) × ((k : ℕ) → k < length next → get_or next k 0 ≡ k))
+    (prev_is : (length prev ≡ nodes + buckets) × ((k : ℕ) → k < length prev → get_or prev k 0 ≡ k)) (home_is : home ≡ replicate nodes None) where
   home_len : length home ≡ nodes
   home_len = ap length home_is ∙ length-replicate nodes None
 

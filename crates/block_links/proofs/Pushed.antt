@@ -1,5 +1,6 @@
 -- A node that is put between the last place of a ring and its end stands at the back of that list, and no other ring has these places.
-use Rattle.std.proofs.Common.{◌≡◌, ℕ, ◌+◌, ◌<◌, inl, inr, Option, Some, None, List, [], ◌∷◌, ◌++◌, length, reverse, get_or, set, refl, sym, ap, ◌∙◌, subst, arith, get_or-set_same, get_or-set_other, length-set}
+use Rattle.std.proofs.Common.{◌≡◌, ℕ, ◌+◌, ◌<◌, inl, inr, Option, Some, None, List, [], ◌∷◌, ◌++◌, length, reverse, get_or, set, refl, sym, ap, ◌∙◌, subst, arith, get_or-set_same}
+use Rattle.std.proofs.Common.{get_or-set_other, length-set}
 use Rattle.std.proofs.lemmas.List.{reverse-append}
 use Rattle.std.proofs.lemmas.Bool.{cases_eq, eq-eqb, ne_eqb}
 use Rattle.block_links.specs.Lists.{times, list_at, appended, IsFree}
@@ -39,7 +40,8 @@ module _ (next prev : List ℕ) (home : List (Option ℕ)) (ls : List (List ℕ)
     forward_pushed : Leads next_with tip (list_at ls b ++ n ∷ []) tip
     forward_pushed =
         let to_node = subst (λ (v : ℕ). Leads (set next v n) tip (list_at ls b) n) (sym last_is)
-        (Leads-set_last next tip (list_at ls b) tip n (λ v. ring_once next prev home ls linked v b) (subst (λ (v : ℕ). v < length next) last_is (omega (arith, linked.next_len, last_within))) (linked.forward b bucket)) in
+        (Leads-set_last next tip (list_at ls b) tip n (λ v. ring_once next prev home ls linked v b) (subst (λ (v : ℕ). v < length next) last_is (omega (arith, linked.next_len, last_within)))
+        (linked.forward b bucket)) in
         Leads-append next_with tip (list_at ls b) n [] tip
         (Leads-set (set next last n) tip (list_at ls b) n n tip (node_off b) to_node)
         (get_or-set_same (set next last n) n tip 0 (omega (arith, length-set next last n, linked.next_len)))

@@ -1,5 +1,6 @@
 -- A node that is taken out of its ring leaves the lists without it: the ring is cut there, and no other ring has that place.
-use Rattle.std.proofs.Common.{◌≡◌, ℕ, ◌+◌, ◌<◌, ◌≤◌, inl, inr, not, eqb, Option, None, List, [], ◌∷◌, ◌++◌, length, reverse, get_or, set, refl, sym, ap, ap₂, ◌∙◌, subst, arith, get_or-set_same, get_or-set_other, length-set}
+use Rattle.std.proofs.Common.{◌≡◌, ℕ, ◌+◌, ◌<◌, ◌≤◌, inl, inr, not, eqb, Option, None, List, [], ◌∷◌, ◌++◌, length, reverse, get_or, set, refl, sym, ap, ap₂, ◌∙◌, subst, arith, get_or-set_same}
+use Rattle.std.proofs.Common.{get_or-set_other, length-set}
 use Rattle.std.proofs.lemmas.List.{reverse-append, reverse-reverse, append_assoc, length-map}
 use Rattle.std.proofs.lemmas.List.Elements.{filter-append}
 use Rattle.std.proofs.lemmas.Bool.{cases_eq, eq-eqb}
@@ -34,7 +35,8 @@ module _ (next prev : List ℕ) (home : List (Option ℕ)) (ls : List (List ℕ)
     before_is = Leads-first prev n (reverse cut.front) end (Leads-parts prev end (reverse cut.rest) n (reverse cut.front) end way_prev).1 ∙ last_or_is cut.front end
 
     after_is : get_or next n 0 ≡ last_or end (reverse cut.rest)
-    after_is = Leads-first next n cut.rest end (Leads-parts next end cut.front n cut.rest end way_next).1 ∙ sym (ap (λ xs. get_or xs 0 end) (reverse-reverse cut.rest)) ∙ last_or_is (reverse cut.rest) end
+    after_is =
+        Leads-first next n cut.rest end (Leads-parts next end cut.front n cut.rest end way_next).1 ∙ sym (ap (λ xs. get_or xs 0 end) (reverse-reverse cut.rest)) ∙ last_or_is (reverse cut.rest) end
 
     times_parts : (v : ℕ) → times v (list_at ls b) ≡ times v cut.front + times v (n ∷ cut.rest)
     times_parts v = ap (times v) cut.parts ∙ times-append v cut.front (n ∷ cut.rest)
@@ -92,7 +94,8 @@ module _ (next prev : List ℕ) (home : List (Option ℕ)) (ls : List (List ℕ)
 
       forward_there : Leads next_without (length home + c) (without n (list_at ls c)) (length home + c)
       forward_there = subst (λ (xs : List ℕ). Leads next_without (length home + c) xs (length home + c)) (sym without_other)
-          (Leads-set next (length home + c) (list_at ls c) (length home + c) (get_or prev n 0) (get_or next n 0) (rings_apart next prev home ls linked (get_or prev n 0) b c other before_on) (linked.forward c within))
+          (Leads-set next (length home + c) (list_at ls c) (length home + c) (get_or prev n 0) (get_or next n 0) (rings_apart next prev home ls linked (get_or prev n 0) b c other before_on)
+          (linked.forward c within))
 
       backward_there : Leads prev_without (length home + c) (reverse (without n (list_at ls c))) (length home + c)
       backward_there = subst (λ (xs : List ℕ). Leads prev_without (length home + c) (reverse xs) (length home + c)) (sym without_other)

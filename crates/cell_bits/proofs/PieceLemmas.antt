@@ -1,5 +1,6 @@
 -- Pieces of bytes, taken from a row and put into it.
-use Rattle.std.proofs.Common.{◌≡◌, ◌≢◌, ℕ, zero, suc, ◌+◌, ◌-◌, ◌*◌, ◌/◌, ◌%◌, ◌^◌, ◌<◌, ◌≤◌, ◌⊎◌, min, List, length, slice_index, slice_set, bit_and, bit_or, bit_xor, sym, ◌∙◌, ap, ap₂, subst, refl, inl, inr, arith, get_or-set_same, get_or-set_other, add-zero}
+use Rattle.std.proofs.Common.{◌≡◌, ◌≢◌, ℕ, zero, suc, ◌+◌, ◌-◌, ◌*◌, ◌/◌, ◌%◌, ◌^◌, ◌<◌, ◌≤◌, ◌⊎◌, min, List, length, slice_index, slice_set, bit_and, bit_or, bit_xor, sym, ◌∙◌, ap, ap₂, subst}
+use Rattle.std.proofs.Common.{refl, inl, inr, arith, get_or-set_same, get_or-set_other, add-zero}
 use Rattle.std.specs.Int.{bit_at}
 use Rattle.std.proofs.lemmas.Bool.{cases_eq, cases_lt}
 use Rattle.std.proofs.lemmas.Nat.{pow-add, shl-shr, shr-shr, and_mask, or_comm, or_shifted, mod_below, pow_pos, shl_below, shl_whole, mul-add-lt, pow_below}
@@ -50,7 +51,8 @@ pow_le i j h = elim (cases_lt i j) [
 
 pub change_small : (byte first bits count mask : ℕ) → mask ≡ 2 ^ count - 1 → first + count ≤ 8 → change_of byte first bits mask * 2 ^ first < 2 ^ 8
 change_small byte first bits count mask e fits =
-    let below : change_of byte first bits mask * 2 ^ first < 2 ^ (count + first) = shl_below (change_of byte first bits mask) count first (masked_narrow (bit_xor (byte / 2 ^ first) bits) count mask e) in
+    let below : change_of byte first bits mask * 2 ^ first < 2 ^ (count + first) =
+    shl_below (change_of byte first bits mask) count first (masked_narrow (bit_xor (byte / 2 ^ first) bits) count mask e) in
     let room : 2 ^ (count + first) ≤ 2 ^ 8 = pow_le (count + first) 8 (omega arith) in
     omega arith
 

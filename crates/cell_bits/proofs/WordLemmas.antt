@@ -1,5 +1,6 @@
 -- Words of a row: bit i of the number is bit i mod 8 of its byte i / 8.
-use Rattle.std.proofs.Common.{◌≡◌, ℕ, zero, suc, ◌+◌, ◌-◌, ◌*◌, ◌/◌, ◌%◌, ◌^◌, ◌<◌, ◌≤◌, ◌⊎◌, inl, inr, List, [], ◌∷◌, ◌++◌, take, length, slice_index, refl, sym, ap, ap₂, ◌∙◌, arith, subst, length-take}
+use Rattle.std.proofs.Common.{◌≡◌, ℕ, zero, suc, ◌+◌, ◌-◌, ◌*◌, ◌/◌, ◌%◌, ◌^◌, ◌<◌, ◌≤◌, ◌⊎◌, inl, inr, List, [], ◌∷◌, ◌++◌, take, length, slice_index, refl, sym, ap, ap₂, ◌∙◌, arith, subst}
+use Rattle.std.proofs.Common.{length-take}
 use Rattle.std.specs.Int.{bit_at, w64, to_le_bytes, from_le_bytes}
 use Rattle.std.proofs.lemmas.Nat.{le_bytes_8}
 use Rattle.std.proofs.lemmas.Bool.{cases_lt}
@@ -33,7 +34,8 @@ word_bit n i h =
 
 abbrev pub bytes_from : List ℕ → ℕ → List ℕ
 bytes_from row start =
-    slice_index row start ∷ slice_index row (start + 1) ∷ slice_index row (start + 2) ∷ slice_index row (start + 3) ∷ slice_index row (start + 4) ∷ slice_index row (start + 5) ∷ slice_index row (start + 6) ∷ slice_index row (start + 7) ∷ []
+    slice_index row start ∷ slice_index row (start + 1) ∷ slice_index row (start + 2) ∷ slice_index row (start + 3) ∷ slice_index row (start + 4) ∷ slice_index row (start + 5) ∷ slice_index row
+    (start + 6) ∷ slice_index row (start + 7) ∷ []
 
 from_byte : (row : List ℕ) (start k : ℕ) → k < 8 → slice_index (bytes_from row start) k ≡ slice_index row (start + k)
 from_byte row start zero h = ap (slice_index row) (omega arith)
@@ -67,7 +69,8 @@ taken_word row start n f e i h =
     remainder = omega arith
 
 -- the cells of a word that is put in the place of eight bytes
-pub put_bit : (row bytes : List ℕ) (start k word : ℕ) → k ≡ 8 → start + 8 ≤ length row → bytes ≡ to_le_bytes w64 word → (i : ℕ) → i < 64 → charge_at (put_mid start k row bytes) (8 * start + i) ≡ bit_at word i
+pub put_bit : (row bytes : List ℕ) (start k word : ℕ) → k ≡ 8 → start + 8 ≤ length row → bytes ≡ to_le_bytes w64 word → (i : ℕ) → i < 64
+    → charge_at (put_mid start k row bytes) (8 * start + i) ≡ bit_at word i
 put_bit row bytes start k word eight room e i h =
     ap₂ (λ (q r : ℕ). bit_at (slice_index (put_mid start k row bytes) q) r) quotient remainder
     ∙ (ap (λ (byte : ℕ). bit_at byte (i % 8)) inside ∙ (ap (λ (xs : List ℕ). bit_at (slice_index xs (i / 8)) (i % 8)) e ∙ word_bit word i h))

@@ -66,7 +66,8 @@ pub changed_once : (old new : DieState) → new.shape ≡ old.shape → IsWhole 
 unfolding IsChanged
 changed_once old new shape whole = (new, shape, whole, record { shape = refl; same = record { cells = refl; erases = refl } })
 
-pub programmed_once : (page : ℕ) (target : List ℕ) (old new : DieState) → IsAbove target (page_of old page) → page_of new page ≡ target → OnlyPage page old new → new.shape ≡ old.shape → IsChanged 1 old new
+pub programmed_once : (page : ℕ) (target : List ℕ) (old new : DieState) → IsAbove target (page_of old page) → page_of new page ≡ target → OnlyPage page old new → new.shape ≡ old.shape
+    → IsChanged 1 old new
 programmed_once page target old new above cells only shape = changed_once old new shape (inl (page, target, record { above = above; cells = cells; only = only }))
 
 pub erased_once : (block : ℕ) (old new : DieState) → IsErased block old new → OnlyBlock block old new → new.shape ≡ old.shape → IsChanged 1 old new

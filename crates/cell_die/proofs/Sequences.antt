@@ -82,8 +82,11 @@ pub passed_trans : {old mid new : DieState} {c r d s : ℕ} → Passed c r old m
 passed_trans {old} {mid} {new} {c} {r} {d} {s} first second = record {
   read_faults = second.read_faults ∙ first.read_faults;
   change_faults = second.change_faults ∙ first.change_faults;
-  failures = WhilePowered-trans (Nearer c r) (Nearer d s) (Nearer (c + d) (r + s)) (λ a b near. near.powered) (Nearer-trans c r d s) old.failures mid.failures new.failures first.failures second.failures;
-  changed = told_trans (IsChanged c old mid) (IsChanged d mid new) (IsChanged (c + d) old new) (Nearer c r) (λ a b near. near.powered) (changed_trans c d old mid new) old.failures mid.failures new.failures first.failures first.changed second.changed;
+  failures =
+      WhilePowered-trans (Nearer c r) (Nearer d s) (Nearer (c + d) (r + s)) (λ a b near. near.powered) (Nearer-trans c r d s) old.failures mid.failures new.failures first.failures second.failures;
+  changed =
+      told_trans (IsChanged c old mid) (IsChanged d mid new) (IsChanged (c + d) old new) (Nearer c r) (λ a b near. near.powered)
+      (changed_trans c d old mid new) old.failures mid.failures new.failures first.failures first.changed second.changed;
 }
 
 -- calls that passed, and then some of which the last, a change call, failed
@@ -91,7 +94,8 @@ pub change_failed_after : {old mid new : DieState} {c r d s : ℕ} → Passed c 
 change_failed_after {old} {mid} {new} {c} {r} {d} {s} first second = record {
   read_faults = second.read_faults ∙ first.read_faults;
   change_faults = rw first.change_faults at second.change_faults;
-  failures = WhilePowered-trans (Nearer c r) (CutCame d s) (CutCame (c + d) (r + s)) (λ a b near. near.powered) (CutCame-after c r d s) old.failures mid.failures new.failures first.failures second.failures;
+  failures =
+      WhilePowered-trans (Nearer c r) (CutCame d s) (CutCame (c + d) (r + s)) (λ a b near. near.powered) (CutCame-after c r d s) old.failures mid.failures new.failures first.failures second.failures;
   cut = told_cut c (Nearer c r) (CutCame d s) old mid new (λ a b near. near.powered) (λ x y z near came. (near.cut, came.armed, near.form came.armed))
       old.failures mid.failures new.failures first.failures first.changed second.failures second.cut;
 }
@@ -101,7 +105,9 @@ pub read_failed_after : {old mid new : DieState} {c r d s : ℕ} → Passed c r 
 read_failed_after {old} {mid} {new} {c} {r} {d} {s} first second = record {
   read_faults = rw first.read_faults at second.read_faults;
   change_faults = second.change_faults ∙ first.change_faults;
-  failures = WhilePowered-trans (Nearer c r) (ReadFailureCame d s) (ReadFailureCame (c + d) (r + s)) (λ a b near. near.powered) (ReadFailureCame-after c r d s) old.failures mid.failures new.failures first.failures second.failures;
+  failures =
+      WhilePowered-trans (Nearer c r) (ReadFailureCame d s) (ReadFailureCame (c + d) (r + s)) (λ a b near. near.powered)
+      (ReadFailureCame-after c r d s) old.failures mid.failures new.failures first.failures second.failures;
 }
 
 WhilePowered-map : (P Q : Failures → Failures → Type 0) → ((a b : Failures) → P a b → Q a b) → (x y : Option Failures) → WhilePowered x y P → WhilePowered x y Q
@@ -182,6 +188,7 @@ pub ok_then : {T E : Type 0} {c r : ℕ} (d s : ℕ) (old mid new : DieState) (r
 ok_then {T} {E} {c} {r} d s old mid new (Ok value) first second = passed_trans first second
 ok_then {T} {E} {c} {r} d s old mid new (Err error) first second = tt
 
-pub err_then : {T E : Type 0} {c r : ℕ} (d s : ℕ) (old mid new : DieState) (result : Result T E) → Passed c r old mid → OnErr result (ChangeFailed d s mid new) → OnErr result (ChangeFailed (c + d) (r + s) old new)
+pub err_then : {T E : Type 0} {c r : ℕ} (d s : ℕ) (old mid new : DieState) (result : Result T E) → Passed c r old mid → OnErr result (ChangeFailed d s mid new)
+    → OnErr result (ChangeFailed (c + d) (r + s) old new)
 err_then {T} {E} {c} {r} d s old mid new (Ok value) first second = tt
 err_then {T} {E} {c} {r} d s old mid new (Err error) first second = change_failed_after first second

@@ -8,7 +8,8 @@ use Rattle.die_image.specs.declared.head.ImageHead.{ImageHead}
 use Rattle.die_image.specs.declared.scheme.SchemeName.{SchemeName}
 use Rattle.die_image.specs.declared.scheme.SchemeName.TheVariants.{Plain16, Rs16, Rs512, Coset16, Coset512, Flip16, Flip512, Ham16, Ham512}
 use Rattle.die_image.specs.Schemes.{row_of, scheme_of_number}
-use Rattle.die_image.specs.Image.{die_bytes, is_within_limits, half, word, first_bytes, image, old_image, version_number, head_length, AreCells, AreOldCells, half_at, word_at, has_magic, has_slots, head_read, image_read}
+use Rattle.die_image.specs.Image.{die_bytes, is_within_limits, half, word, first_bytes, image, old_image, version_number, head_length, AreCells, AreOldCells, half_at, word_at, has_magic}
+use Rattle.die_image.specs.Image.{has_slots, head_read, image_read}
 
 -- the numbers of a head within limits have four bytes
 pub record AreWords (head : ImageHead) : Type 0 where
@@ -162,7 +163,13 @@ pub image_again : (head : ImageHead) (cells : List ℕ) → AreCells head cells 
 image_again head cells h =
     let tail : List ℕ = word (row_of head.scheme).generations ++ cells in
     let long : 32 ≤ length (first_bytes false head ++ tail) =
-    omega (arith, length-append (first_bytes false head) tail, length-append (word (row_of head.scheme).generations) cells, length-first_bytes false head, length-word (row_of head.scheme).generations) in
+    omega (
+      arith,
+      length-append (first_bytes false head) tail,
+      length-append (word (row_of head.scheme).generations) cells,
+      length-first_bytes false head,
+      length-word (row_of head.scheme).generations,
+    ) in
     ap (image_read false) (image-first_bytes head cells)
     ∙ read_again false head tail cells h long (eq-eqb _ _ (slots_again head cells)) (behind_word head cells)
 

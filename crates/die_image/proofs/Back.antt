@@ -1,5 +1,6 @@
 -- The image of what an image says is that image.
-use Rattle.std.proofs.Common.{◌≡◌, ℕ, zero, suc, ◌+◌, ◌&&◌, ◌<◌, ◌≤◌, Bool, true, false, not, cond, List, [], ◌∷◌, ◌++◌, length, take, drop, get_or, ◌==◌, nat_lt, codes, Option, Some, None, Result, Ok, Err, refl, sym, ap, subst, ◌∙◌, append_assoc, arith}
+use Rattle.std.proofs.Common.{◌≡◌, ℕ, zero, suc, ◌+◌, ◌&&◌, ◌<◌, ◌≤◌, Bool, true, false, not, cond, List, [], ◌∷◌, ◌++◌, length, take, drop, get_or, ◌==◌, nat_lt, codes, Option, Some, None}
+use Rattle.std.proofs.Common.{Result, Ok, Err, refl, sym, ap, subst, ◌∙◌, append_assoc, arith}
 use Rattle.std.specs.Cmp.Lexicographic.{bytes_decides}
 use Rattle.std.proofs.lemmas.Bool.{ltb-false, eqb-true, not-false, and_parts}
 use Rattle.std.proofs.lemmas.List.{length-drop, drop-drop, take-append-drop, get_or-drop, get_or_past}
@@ -11,7 +12,8 @@ use Rattle.die_image.specs.declared.error.ImageError.{ImageError}
 use Rattle.die_image.specs.declared.error.ImageError.TheVariants as errors
 use Rattle.die_image.specs.Schemes.{row_of, scheme_of_number}
 use Rattle.die_image.specs.Pads.{is_pad_charged}
-use Rattle.die_image.specs.Image.{shape_of, die_bytes, is_within_limits, half, word, first_bytes, image, old_image, version_number, head_length, AreCells, AreOldCells, half_at, word_at, has_magic, has_slots, head_with, head_of_scheme, good_head, head_read, cells_read, cells_after, image_read}
+use Rattle.die_image.specs.Image.{shape_of, die_bytes, is_within_limits, half, word, first_bytes, image, old_image, version_number, head_length, AreCells, AreOldCells, half_at, word_at}
+use Rattle.die_image.specs.Image.{has_magic, has_slots, head_with, head_of_scheme, good_head, head_read, cells_read, cells_after, image_read}
 use Rattle.die_image.proofs.Again.{image-first_bytes}
 use Rattle.die_image.proofs.Heads.{at_least}
 

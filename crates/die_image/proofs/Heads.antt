@@ -9,7 +9,8 @@ use Rattle.die_image.specs.declared.error.ImageError.{ImageError}
 use Rattle.die_image.specs.declared.error.ImageError.TheVariants as errors
 use Rattle.die_image.specs.Schemes.{scheme_of_number}
 use Rattle.die_image.specs.declared.scheme.SchemeName.{SchemeName}
-use Rattle.die_image.specs.Image.{head_length, head_read, head_with, head_of_scheme, has_slots, has_magic, half_at, word_at, Fed, wanted, end_read, Says, Gives, die_bytes, cells_read, cells_after, image_read, wants_after}
+use Rattle.die_image.specs.Image.{head_length, head_read, head_with, head_of_scheme, has_slots, has_magic, half_at, word_at, Fed, wanted, end_read, Says, Gives, die_bytes, cells_read}
+use Rattle.die_image.specs.Image.{cells_after, image_read, wants_after}
 
 number_front : (n place : ℕ) (xs ys : List ℕ) → place + n ≤ length xs → little_number n (drop place (xs ++ ys)) ≡ little_number n (drop place xs)
 number_front n place xs ys h =
@@ -150,7 +151,8 @@ all_fed is_old bytes m k at_head at_cells =
           rw (none, take_all m bytes (omega arith), take_none k, append-nil bytes) refl
       | inr le ↦
           let whole : length (take m bytes) ≡ head_length is_old = omega (arith, length-take m bytes) in
-          let cells : k ≡ min (length (drop m bytes)) (wants_after 0 (head_read is_old (take m bytes))) = at_cells ∙ ap (λ (w : ℕ). min (length (drop m bytes)) w) (wanted_behind_head is_old (take m bytes) whole) in
+          let cells : k ≡ min (length (drop m bytes)) (wants_after 0 (head_read is_old (take m bytes))) =
+          at_cells ∙ ap (λ (w : ℕ). min (length (drop m bytes)) w) (wanted_behind_head is_old (take m bytes) whole) in
           rw (cells, take_min (wants_after 0 (head_read is_old (take m bytes))) (drop m bytes), ← enough is_old (take m bytes) (drop m bytes) whole, take-append-drop m bytes) refl
     ]
   where
@@ -174,9 +176,11 @@ pub fed_all : (r0 r1 r2 : Fed) (bytes front rest cells : List ℕ) (w0 w1 m k : 
     end_read r2 ≡ image_read r0.is_old bytes
 fed_all r0 r1 r2 bytes front rest cells w0 w1 m k well none w0-is m-is front-is rest-is r1-is w1-is k-is cells-is r2-is =
     let first : r0 ≡ record { is_old = r0.is_old; is_failed = false; bytes = [] } = λ i. record { is_old = r0.is_old; is_failed = well i; bytes = none i } in
-    let some : r1 ≡ record { is_old = r0.is_old; is_failed = false; bytes = take m bytes } = r1-is ∙ ap (λ (r : Fed). record r { bytes = r.bytes ++ front }) first ∙ (λ i. record { is_old = r0.is_old; is_failed = false; bytes = front-is i }) in
+    let some : r1 ≡ record { is_old = r0.is_old; is_failed = false; bytes = take m bytes } =
+    r1-is ∙ ap (λ (r : Fed). record r { bytes = r.bytes ++ front }) first ∙ (λ i. record { is_old = r0.is_old; is_failed = false; bytes = front-is i }) in
     let all : r2 ≡ record { is_old = r0.is_old; is_failed = false; bytes = take m bytes ++ take k (drop m bytes) } =
-    r2-is ∙ ap (λ (r : Fed). record r { bytes = r.bytes ++ cells }) some ∙ (λ i. record { is_old = r0.is_old; is_failed = false; bytes = take m bytes ++ (cells-is ∙ ap (λ (xs : List ℕ). take k xs) rest-is) i }) in
+    r2-is ∙ ap (λ (r : Fed). record r { bytes = r.bytes ++ cells }) some
+    ∙ (λ i. record { is_old = r0.is_old; is_failed = false; bytes = take m bytes ++ (cells-is ∙ ap (λ (xs : List ℕ). take k xs) rest-is) i }) in
     let m-at : m ≡ min (length bytes) (head_length r0.is_old) = m-is ∙ ap (λ (w : ℕ). min (length bytes) w) (w0-is ∙ ap wanted first ∙ wanted_fresh r0.is_old) in
     let k-at : k ≡ min (length (drop m bytes)) (wanted (record { is_old = r0.is_old; is_failed = false; bytes = take m bytes })) =
     k-is ∙ ap (λ (xs : List ℕ). min (length xs) w1) rest-is ∙ ap (λ (w : ℕ). min (length (drop m bytes)) w) (w1-is ∙ ap wanted some) in

@@ -25,7 +25,8 @@ head_within : (is_old : Bool) (read : Result ImageHead ImageError) → head_leng
 head_within is_old (Ok head) = omega arith
 head_within is_old (Err why) = omega arith
 
-more_within : (is_old : Bool) (n k : ℕ) (read : Result ImageHead ImageError) → head_length is_old ≤ n → n ≤ reach_of is_old read → k ≤ wants_after (n - head_length is_old) read → n + k ≤ reach_of is_old read
+more_within : (is_old : Bool) (n k : ℕ) (read : Result ImageHead ImageError) → head_length is_old ≤ n → n ≤ reach_of is_old read → k ≤ wants_after (n - head_length is_old) read
+    → n + k ≤ reach_of is_old read
 more_within is_old n k (Ok head) le within fits = omega arith
 more_within is_old n k (Err why) le within fits = omega arith
 

@@ -23,7 +23,8 @@ erased_in_part old new block shaped inside erased = record {
 abbrev pub InPart : ℕ → DieState → DieState → Type 0
 InPart block old new = SameCells old new ⊎ ErasedInPart block old new
 
-either : {T E : Type 0} (r : Result T E) (old new : DieState) (block : ℕ) → IsShaped old → block < old.shape.blocks → OnOk r (IsErased block old new) → OnErr r (InPart block old new) → InPart block old new
+either : {T E : Type 0} (r : Result T E) (old new : DieState) (block : ℕ) → IsShaped old → block < old.shape.blocks → OnOk r (IsErased block old new) → OnErr r (InPart block old new)
+    → InPart block old new
 either (Ok x) old new block shaped inside ok err = inr (erased_in_part old new block shaped inside ok)
 either (Err e) old new block shaped inside ok err = err
 
@@ -38,7 +39,8 @@ on_err : {T E P : Type 0} (r : Result T E) → P → OnErr r P
 on_err (Ok x) p = tt
 on_err (Err e) p = p
 
-pub erase_not_kept : {T E S F : Type 0} (answer : Result T E) (done : Result S F) (old new : MemDie) (m n block : ℕ) → block < (mem_state old).shape.blocks → OnOk done (IsErased block (mem_state old) (mem_state new))
+pub erase_not_kept : {T E S F : Type 0} (answer : Result T E) (done : Result S F) (old new : MemDie) (m n block : ℕ) → block < (mem_state old).shape.blocks
+    → OnOk done (IsErased block (mem_state old) (mem_state new))
     → OnErr done (InPart block (mem_state old) (mem_state new)) → OnErr answer (InPart block (file_view (mem_state old) m) (file_view (mem_state new) n))
 erase_not_kept answer done old new m n block inside ok err =
     on_err answer (viewed (mem_state old) (mem_state new) m n block (either done (mem_state old) (mem_state new) block (mem_shaped old) inside ok err))

@@ -1,5 +1,6 @@
 -- Header cells lie below a valid word exactly where some kind and some last byte leave room for its zero bits.
-use Rattle.std.proofs.Common.{◌≡◌, ℕ, zero, suc, ◌+◌, ◌-◌, ◌*◌, ◌/◌, ◌%◌, ◌^◌, ◌<◌, ◌≤◌, inl, inr, true, List, [], ◌∷◌, ◌++◌, take, length, nat_lt, slice_index, refl, sym, ap, ap₂, ◌∙◌, arith, min, subst, length-append, append_assoc}
+use Rattle.std.proofs.Common.{◌≡◌, ℕ, zero, suc, ◌+◌, ◌-◌, ◌*◌, ◌/◌, ◌%◌, ◌^◌, ◌<◌, ◌≤◌, inl, inr, true, List, [], ◌∷◌, ◌++◌, take, length, nat_lt, slice_index, refl, sym, ap, ap₂, ◌∙◌, arith}
+use Rattle.std.proofs.Common.{min, subst, length-append, append_assoc}
 use Rattle.std.specs.Prelude.{count_ones}
 use Rattle.std.specs.Int.{bit_at}
 use Rattle.std.specs.List.{sum_by}
@@ -142,13 +143,15 @@ bytes_above (x ∷ xs) wanted h few =
       above = at head.byte rest.bytes head.above rest.above;
     }
   where
-    at : (y : ℕ) (ys : List ℕ) → ((i : ℕ) → bit_at x i ≤ bit_at y i) → ((k i : ℕ) → bit_at (slice_index xs k) i ≤ bit_at (slice_index ys k) i) → (k i : ℕ) → bit_at (slice_index (x ∷ xs) k) i ≤ bit_at (slice_index (y ∷ ys) k) i
+    at : (y : ℕ) (ys : List ℕ) → ((i : ℕ) → bit_at x i ≤ bit_at y i) → ((k i : ℕ) → bit_at (slice_index xs k) i ≤ bit_at (slice_index ys k) i) → (k i : ℕ)
+        → bit_at (slice_index (x ∷ xs) k) i ≤ bit_at (slice_index (y ∷ ys) k) i
     at y ys f g zero i = f i
     at y ys f g (suc k) i = g k i
 
 -- ---- a valid word above
 
-last_two : (ys : List ℕ) (kind last : ℕ) → length ys ≡ 12 → (take 13 (ys ++ kind ∷ last ∷ []) ≡ ys ++ kind ∷ []) × (slice_index (ys ++ kind ∷ last ∷ []) 12 ≡ kind) × (slice_index (ys ++ kind ∷ last ∷ []) 13 ≡ last)
+last_two : (ys : List ℕ) (kind last : ℕ) → length ys ≡ 12
+    → (take 13 (ys ++ kind ∷ last ∷ []) ≡ ys ++ kind ∷ []) × (slice_index (ys ++ kind ∷ last ∷ []) 12 ≡ kind) × (slice_index (ys ++ kind ∷ last ∷ []) 13 ≡ last)
 last_two ys kind last long =
     let whole : length (ys ++ kind ∷ []) ≡ 13 = omega (arith, length-append ys (kind ∷ [])) in (
       ap (take 13) (sym (append_assoc ys (kind ∷ []) (last ∷ []))) ∙ (take-append-le 13 (ys ++ kind ∷ []) (last ∷ []) (omega arith) ∙ take_all 13 (ys ++ kind ∷ []) (omega arith)),
@@ -216,11 +219,18 @@ valid_from_ending cells long bytes ending = (word, valid, above_bytes word cells
 
     each : (k i : ℕ) → i < 8 → bit_at (slice_index cells k) i ≤ bit_at (slice_index word k) i
     each k i h = elim (cases_lt k 12) [
-      | inl early ↦ omega (arith, front.above k i, ap (λ (b : ℕ). bit_at b i) (get_or-take 12 cells k 0 early), ap (λ (b : ℕ). bit_at b i) (get_or_append_left front.bytes (kind ∷ last ∷ []) 0 k (omega (arith, front_long))))
+      | inl early ↦ omega (
+        arith,
+        front.above k i,
+        ap (λ (b : ℕ). bit_at b i) (get_or-take 12 cells k 0 early),
+        ap (λ (b : ℕ). bit_at b i) (get_or_append_left front.bytes (kind ∷ last ∷ []) 0 k (omega (arith, front_long))),
+      )
       | inr late ↦ elim (cases_eq k 12) [
-        | inl twelve ↦ subst (λ (n : ℕ). bit_at (slice_index cells n) i ≤ bit_at (slice_index word n) i) (sym twelve) (omega (arith, bit_below _ _ may.kind_above 0 i h, ap (λ (b : ℕ). bit_at b i) ends.1))
+        | inl twelve ↦ subst (λ (n : ℕ). bit_at (slice_index cells n) i ≤ bit_at (slice_index word n) i) (sym twelve)
+            (omega (arith, bit_below _ _ may.kind_above 0 i h, ap (λ (b : ℕ). bit_at b i) ends.1))
         | inr other ↦ elim (cases_eq k 13) [
-          | inl thirteen ↦ subst (λ (n : ℕ). bit_at (slice_index cells n) i ≤ bit_at (slice_index word n) i) (sym thirteen) (omega (arith, bit_below _ _ may.last_above 0 i h, ap (λ (b : ℕ). bit_at b i) ends.2))
+          | inl thirteen ↦ subst (λ (n : ℕ). bit_at (slice_index cells n) i ≤ bit_at (slice_index word n) i) (sym thirteen)
+              (omega (arith, bit_below _ _ may.last_above 0 i h, ap (λ (b : ℕ). bit_at b i) ends.2))
           | inr past ↦ omega (arith, ap (λ (b : ℕ). bit_at b i) (get_or_past cells k 0 (omega arith)), bit_at-zero i)
         ]
       ]

@@ -59,7 +59,8 @@ headers_below : (g : Geometry) (cells : List (List ℕ)) → All (LiesBelow g ce
 headers_below g cells all page slot h k = all_member (LiesBelow g cells) (places g) (at_place page slot) all (listed g page slot h k)
 
 -- a header of the die is listed
-header_member : (g : Geometry) (cells : List (List ℕ)) (place : Place) (h : Header) → HasShape (shape_of g) cells → header_in g cells place ≡ Some h → Member (record { place = place; header = h }) (headers g cells)
+header_member : (g : Geometry) (cells : List (List ℕ)) (place : Place) (h : Header) → HasShape (shape_of g) cells → header_in g cells place ≡ Some h
+    → Member (record { place = place; header = h }) (headers g cells)
 unfolding headers
 header_member g cells place h shape e =
     let w = header_within g cells place h shape e in
@@ -85,7 +86,8 @@ module _ (g : Geometry) (cells : List (List ℕ)) (marks live : List Mark) (shap
   small_seqs : first_high marks ≡ None → SeqsBelow g (2 ^ 62 + 2 ^ 20) cells
   small_seqs none place h e = elim (cases_lt h.seq (2 ^ 62 + 2 ^ 20)) [
     | inl below ↦ below
-    | inr high ↦ absurd (all_member (λ (placed : Placed). 2 ^ 62 + 2 ^ 20 ≤ placed.header.seq → ⊥) (map placed_of marks) (record { place = place; header = h }) (none_high marks none) (member place h e) high)
+    | inr high ↦ absurd (all_member (λ (placed : Placed). 2 ^ 62 + 2 ^ 20 ≤ placed.header.seq → ⊥) (map placed_of marks) (record { place = place; header = h }) (none_high marks none)
+        (member place h e) high)
   ]
 
   repeats : (first second : Place) → first_repeat marks ≡ Some (first, second) → RepeatsAt g cells first second
@@ -133,7 +135,8 @@ only_sound g cells (SameSeq page slot other_page other_slot) verdict sound =
     let later : Member b f.after = first_member (SameSeqAs a) f.after b f.repeated in
     let there : Member b (headers g cells) = subst (Member b) (sym f.split) (after_member f.before a f.after b later) in
     absurd (headers_apart g cells f.before a b f.after f.split later
-    (sound.seqs_differ a.place b.place r.header r.other (header_listed g cells a (subst (Member a) (sym f.split) (in_middle f.before f.after a))) (header_listed g cells b there) (sym f.repeated.holds)))
+    (sound.seqs_differ a.place b.place r.header r.other (header_listed g cells a (subst (Member a) (sym f.split) (in_middle f.before f.after a))) (header_listed g cells b there)
+    (sym f.repeated.holds)))
   where
     after_member : {X : Type 0} (before : List X) (a : X) (after : List X) (b : X) → Member b after → Member b (before ++ a ∷ after)
     after_member [] a after b m = inr m
@@ -142,7 +145,8 @@ only_sound g cells NoSpare verdict sound = absurd (verdict.2 sound.one_free.0 so
 only_sound g cells (Number page slot) verdict sound =
     let h : IsHighAt g cells (at_place page slot) = verdict.3 in
     let x : Placed = record { place = at_place page slot; header = h.header } in
-    let low : h.header.seq < 2 ^ 62 + 2 ^ 20 = sound.small_seqs (at_place page slot) h.header (header_listed g cells x (first_member (λ (placed : Placed). 2 ^ 62 + 2 ^ 20 ≤ placed.header.seq) (headers g cells) x h.first)) in
+    let low : h.header.seq < 2 ^ 62 + 2 ^ 20 =
+    sound.small_seqs (at_place page slot) h.header (header_listed g cells x (first_member (λ (placed : Placed). 2 ^ 62 + 2 ^ 20 ≤ placed.header.seq) (headers g cells) x h.first)) in
     let high : 2 ^ 62 + 2 ^ 20 ≤ h.header.seq = h.first.holds in
     absurd (omega arith)
 
@@ -161,7 +165,8 @@ unsound_audit g d cells v verdict other = record {
   nothing = λ apart. refl;
 }
 
-pub sound_audit : (g : Geometry) (d : Decoding) (cells : List (List ℕ)) (marks live : List Mark) (told : List (ℕ × List ℕ)) → HasShape (shape_of g) cells → ReadTo g cells (places g) marks → AreLive marks live
+pub sound_audit : (g : Geometry) (d : Decoding) (cells : List (List ℕ)) (marks live : List Mark) (told : List (ℕ × List ℕ)) → HasShape (shape_of g) cells → ReadTo g cells (places g) marks
+    → AreLive marks live
     → MarksSay g marks live Sound → told ≡ map (told_by g d cells) live → All (IsWhole g d cells) live → IsAudit g d cells Sound told
 sound_audit g d cells marks live told shape read are says tells whole =
     let verdict : IsSound g cells = verdict_is g cells marks live shape read are Sound says in
@@ -182,6 +187,7 @@ live_holds g cells marks live read are =
     All-weaker (IsLiveMark g cells) (λ mark. may_hold g mark.place ≡ true) (λ mark l. l.holds) live
     (live_marks g cells live (subst (λ (ms : List Mark). All (λ mark. newest_of ms mark.header.sector ≡ Some (placed_of mark)) live) read.marked are.newest))
 
-pub live_pages : (g : Geometry) (cells : List (List ℕ)) (marks live : List Mark) → 1 ≤ g.generations → ReadTo g cells (places g) marks → AreLive marks live → All (λ mark. mark.place.page < page_count g) live
+pub live_pages : (g : Geometry) (cells : List (List ℕ)) (marks live : List Mark) → 1 ≤ g.generations → ReadTo g cells (places g) marks → AreLive marks live
+    → All (λ mark. mark.place.page < page_count g) live
 live_pages g cells marks live some read are =
     All-weaker (λ mark. may_hold g mark.place ≡ true) (λ mark. mark.place.page < page_count g) (λ mark h. (holds_within g mark.place some h).0) live (live_holds g cells marks live read are)

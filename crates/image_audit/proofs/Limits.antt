@@ -26,7 +26,8 @@ row_sizes Plain16 = record { some_sector = lit≤ tt; few_sector = lit≤ tt; so
 row_sizes Rs16 = record { some_sector = lit≤ tt; few_sector = lit≤ tt; some_page = lit≤ tt; few_page = lit≤ tt; some_span = lit≤ tt; small_span = lit≤ tt; two_slots = lit≤ tt; few_slots = lit≤ tt }
 row_sizes Rs512 = record { some_sector = lit≤ tt; few_sector = lit≤ tt; some_page = lit≤ tt; few_page = lit≤ tt; some_span = lit≤ tt; small_span = lit≤ tt; two_slots = lit≤ tt; few_slots = lit≤ tt }
 row_sizes Coset16 = record { some_sector = lit≤ tt; few_sector = lit≤ tt; some_page = lit≤ tt; few_page = lit≤ tt; some_span = lit≤ tt; small_span = lit≤ tt; two_slots = lit≤ tt; few_slots = lit≤ tt }
-row_sizes Coset512 = record { some_sector = lit≤ tt; few_sector = lit≤ tt; some_page = lit≤ tt; few_page = lit≤ tt; some_span = lit≤ tt; small_span = lit≤ tt; two_slots = lit≤ tt; few_slots = lit≤ tt }
+row_sizes Coset512 =
+    record { some_sector = lit≤ tt; few_sector = lit≤ tt; some_page = lit≤ tt; few_page = lit≤ tt; some_span = lit≤ tt; small_span = lit≤ tt; two_slots = lit≤ tt; few_slots = lit≤ tt }
 row_sizes Flip16 = record { some_sector = lit≤ tt; few_sector = lit≤ tt; some_page = lit≤ tt; few_page = lit≤ tt; some_span = lit≤ tt; small_span = lit≤ tt; two_slots = lit≤ tt; few_slots = lit≤ tt }
 row_sizes Flip512 = record { some_sector = lit≤ tt; few_sector = lit≤ tt; some_page = lit≤ tt; few_page = lit≤ tt; some_span = lit≤ tt; small_span = lit≤ tt; two_slots = lit≤ tt; few_slots = lit≤ tt }
 row_sizes Ham16 = record { some_sector = lit≤ tt; few_sector = lit≤ tt; some_page = lit≤ tt; few_page = lit≤ tt; some_span = lit≤ tt; small_span = lit≤ tt; two_slots = lit≤ tt; few_slots = lit≤ tt }

@@ -1,5 +1,6 @@
 -- The live records among the marks are those of the cells: which blocks they stand in, and what they tell.
-use Rattle.std.proofs.Common.{◌≡◌, ◌⊎◌, inl, inr, ℕ, zero, suc, ◌+◌, ◌-◌, ◌/◌, ◌<◌, ◌≤◌, Bool, true, false, cond, List, [], ◌∷◌, ◌++◌, map, length, replicate, ◌&&◌, ◌||◌, ◌==◌, nat_lt, if◌then◌else◌, Option, Some, None, refl, sym, ap, ap₂, ◌∙◌, subst, arith}
+use Rattle.std.proofs.Common.{◌≡◌, ◌⊎◌, inl, inr, ℕ, zero, suc, ◌+◌, ◌-◌, ◌/◌, ◌<◌, ◌≤◌, Bool, true, false, cond, List, [], ◌∷◌, ◌++◌, map, length, replicate, ◌&&◌, ◌||◌, ◌==◌, nat_lt}
+use Rattle.std.proofs.Common.{if◌then◌else◌, Option, Some, None, refl, sym, ap, ap₂, ◌∙◌, subst, arith}
 use Rattle.std.specs.Prelude.{nat_eq, unwrap_or}
 use Rattle.std.specs.List.{All, count_by, filter_map, list_any, range_with_len}
 use Rattle.std.specs.Map.{lookup}
@@ -86,7 +87,8 @@ counted_live g cells sector r e =
       subst (λ (s : ℕ). s < g.sectors) n.of (ltb-true _ _ more.1),
     )
 
-pub live_marks : (g : Geometry) (cells : List (List ℕ)) (live : List Mark) → All (λ mark. newest_of (marks_in g cells (places g)) mark.header.sector ≡ Some (placed_of mark)) live → All (IsLiveMark g cells) live
+pub live_marks : (g : Geometry) (cells : List (List ℕ)) (live : List Mark) → All (λ mark. newest_of (marks_in g cells (places g)) mark.header.sector ≡ Some (placed_of mark)) live
+    → All (IsLiveMark g cells) live
 live_marks g cells [] h = All-nil (IsLiveMark g cells)
 live_marks g cells (mark ∷ live) h =
     let P : Mark → Type 0 = λ m. newest_of (marks_in g cells (places g)) m.header.sector ≡ Some (placed_of m) in
@@ -192,17 +194,20 @@ told_held g d cells live are =
     each [] h = refl
     each (mark ∷ ms) h =
         let l : IsLiveMark g cells mark = All-head (IsLiveMark g cells) mark ms h in
-        ap₂ (λ (x : ℕ × List ℕ) (xs : List (ℕ × List ℕ)). x ∷ xs) (ap (λ (o : Option Placed). (mark.header.sector, without_zeros (said_by g d cells o))) (sym l.live)) (each ms (All-tail (IsLiveMark g cells) mark ms h))
+        ap₂ (λ (x : ℕ × List ℕ) (xs : List (ℕ × List ℕ)). x ∷ xs) (ap (λ (o : Option Placed). (mark.header.sector, without_zeros (said_by g d cells o))) (sym l.live))
+        (each ms (All-tail (IsLiveMark g cells) mark ms h))
 
 -- zeros up to its length give a row back
 filled_row : (row : List ℕ) → filled_up (length row) (without_zeros row) ≡ row
 filled_row [] = refl
 filled_row (byte ∷ row) = at byte row (without_zeros row) refl (filled_row row)
   where
-    at : (byte : ℕ) (row short : List ℕ) → without_zeros row ≡ short → filled_up (length row) (without_zeros row) ≡ row → filled_up (length (byte ∷ row)) (unless_zeros byte (without_zeros row)) ≡ byte ∷ row
+    at : (byte : ℕ) (row short : List ℕ) → without_zeros row ≡ short → filled_up (length row) (without_zeros row) ≡ row
+        → filled_up (length (byte ∷ row)) (unless_zeros byte (without_zeros row)) ≡ byte ∷ row
     at byte row (x ∷ xs) e filled =
         ap (λ (s : List ℕ). filled_up (length (byte ∷ row)) (unless_zeros byte s)) e
-        ∙ ap (λ (s : List ℕ). byte ∷ s) (ap (λ (n : ℕ). (x ∷ xs) ++ replicate n 0) (let c : length (byte ∷ row) - length (byte ∷ x ∷ xs) ≡ length row - length (x ∷ xs) = omega arith in c) ∙ (ap (filled_up (length row)) (sym e) ∙ filled))
+        ∙ ap (λ (s : List ℕ). byte ∷ s) (ap (λ (n : ℕ). (x ∷ xs) ++ replicate n 0) (let c : length (byte ∷ row) - length (byte ∷ x ∷ xs) ≡ length row - length (x ∷ xs) = omega arith in c)
+        ∙ (ap (filled_up (length row)) (sym e) ∙ filled))
     at byte row [] e filled =
         let zeros : replicate (length row) 0 ≡ row = ap (λ (n : ℕ). replicate n 0) (let c : length row ≡ length row - 0 = omega arith in c) ∙ (ap (filled_up (length row)) (sym e) ∙ filled) in
         ap (λ (s : List ℕ). filled_up (length (byte ∷ row)) (unless_zeros byte s)) e ∙ elim (cases_eq byte 0) [
@@ -217,7 +222,8 @@ looked_up : (f : ℕ → List ℕ) (sector : ℕ) (ns : List ℕ) → Member sec
 looked_up f sector [] m = absurd m
 looked_up f sector (n ∷ ns) m = elim (cases_eq sector n) [
   | inl same ↦ ap (λ (t : Bool). cond t (Some (f n)) (lookup (nat_eq sector) (map (λ s. (s, f s)) ns))) (eq-eqb sector n same) ∙ ap (λ (s : ℕ). Some (f s)) (sym same)
-  | inr apart ↦ ap (λ (t : Bool). cond t (Some (f n)) (lookup (nat_eq sector) (map (λ s. (s, f s)) ns))) (ne_eqb sector n apart) ∙ looked_up f sector ns (elim m [ inl here ↦ absurd (apart here) | inr later ↦ later ])
+  | inr apart ↦ ap (λ (t : Bool). cond t (Some (f n)) (lookup (nat_eq sector) (map (λ s. (s, f s)) ns))) (ne_eqb sector n apart)
+      ∙ looked_up f sector ns (elim m [ inl here ↦ absurd (apart here) | inr later ↦ later ])
 ]
 
 not_looked_up : (f : ℕ → List ℕ) (sector : ℕ) (ns : List ℕ) → (Member sector ns → ⊥) → lookup (nat_eq sector) (map (λ s. (s, f s)) ns) ≡ None
@@ -226,7 +232,8 @@ not_looked_up f sector (n ∷ ns) m =
     ap (λ (t : Bool). cond t (Some (f n)) (lookup (nat_eq sector) (map (λ s. (s, f s)) ns))) (ne_eqb sector n (λ same. m (inl same)))
     ∙ not_looked_up f sector ns (λ later. m (inr later))
 
-pub told_stored : (g : Geometry) (d : Decoding) (cells : List (List ℕ)) (live : List Mark) → AreLive (marks_in g cells (places g)) live → All (IsWhole g d cells) live → array_told g (held g d cells) ≡ stored g d cells
+pub told_stored : (g : Geometry) (d : Decoding) (cells : List (List ℕ)) (live : List Mark) → AreLive (marks_in g cells (places g)) live → All (IsWhole g d cells) live
+    → array_told g (held g d cells) ≡ stored g d cells
 unfolding held stored
 told_stored g d cells live are whole = λ i. map (λ sector. each sector (live_record g cells sector) refl i) (range_with_len 0 g.sectors)
   where
@@ -248,6 +255,8 @@ told_stored g d cells live are whole = λ i. map (λ sector. each sector (live_r
         let k = live_listed g cells live sector r are there in
         let long : length (said_by g d cells (Some (placed_of k.0))) ≡ g.sector_bytes = all_member (IsWhole g d cells) live k.0 whole k.1 in
         let row : said_by g d cells (live_record g cells sector) ≡ said_by g d cells (Some (placed_of k.0)) = ap (said_by g d cells) (there ∙ ap Some (sym k.3)) in
-        let m : Member sector found = subst (Member sector) (are.sectors ∙ sectors_are_found g cells) (subst (λ (s : ℕ). Member s (map (λ mark. mark.header.sector) live)) k.2 (member_map (λ (mark : Mark). mark.header.sector) k.0 live k.1)) in
+        let m : Member sector found =
+        subst (Member sector) (are.sectors ∙ sectors_are_found g cells)
+        (subst (λ (s : ℕ). Member s (map (λ mark. mark.header.sector) live)) k.2 (member_map (λ (mark : Mark). mark.header.sector) k.0 live k.1)) in
         ap (λ (o : Option (List ℕ)). filled_up g.sector_bytes (unwrap_or o [])) (looked_up (bytes_held g d cells) sector found m)
         ∙ (ap (λ (n : ℕ). filled_up n (bytes_held g d cells sector)) (sym (ap (length {A = ℕ}) row ∙ long)) ∙ filled_row (said_by g d cells (live_record g cells sector)))

@@ -40,7 +40,8 @@ all_values P (e ∷ es) h = All-cons P e.1 (values_of es) (h e (inl refl)) (all_
 pub live_from_known : {S : Type 0} (marks : List Mark) (live : HashMap ℕ Mark S) → Knows marks live → AreLive marks (values live)
 live_from_known marks live knows = record {
   sectors = sectors_are live.entries own ∙ knows.sectors;
-  newest = all_values (λ mark. newest_of marks mark.header.sector ≡ Some (placed_of mark)) live.entries (λ e m. subst (λ (s : ℕ). newest_of marks s ≡ Some (placed_of e.1)) (sym (own e m)) (newest e m));
+  newest =
+      all_values (λ mark. newest_of marks mark.header.sector ≡ Some (placed_of mark)) live.entries (λ e m. subst (λ (s : ℕ). newest_of marks s ≡ Some (placed_of e.1)) (sym (own e m)) (newest e m));
 }
   where
     newest : (e : ℕ × Mark) → Member e live.entries → newest_of marks e.0 ≡ Some (placed_of e.1)

@@ -68,7 +68,8 @@ sectors_push marks mark e = sectors-more marks mark ∙ ap (λ (t : Bool). secto
 module _ (marks : List Mark) (mark : Mark) where
   -- the newest of the mark's own sector, and of others
   own_newest : mark.counts ≡ true → newest_of (marks ++ mark ∷ []) mark.header.sector ≡ newest_with (newest_of marks mark.header.sector) (Some (placed_of mark))
-  own_newest e = newest_of-more marks mark mark.header.sector ∙ ap (newest_with (newest_of marks mark.header.sector)) (of_own mark mark.header.sector e (eq-eqb mark.header.sector mark.header.sector refl))
+  own_newest e =
+      newest_of-more marks mark mark.header.sector ∙ ap (newest_with (newest_of marks mark.header.sector)) (of_own mark mark.header.sector e (eq-eqb mark.header.sector mark.header.sector refl))
 
   other_newest : (sector : ℕ) → mark.counts ≡ true → (mark.header.sector ≡ sector → ⊥) → newest_of (marks ++ mark ∷ []) sector ≡ newest_of marks sector
   other_newest sector e apart = none_counted marks mark sector (of_other mark sector e (ne_eqb mark.header.sector sector apart))
@@ -114,7 +115,8 @@ module _ {S : Type 0} (marks : List Mark) (mark : Mark) where
 
   -- it does
   pub knows_winner : (old new : HashMap ℕ Mark S) → mark.counts ≡ true → wins (get nat_eq old mark.header.sector) mark ≡ true
-      → new.entries ≡ insert_entry nat_eq old.entries mark.header.sector mark → Updates nat_eq old new mark.header.sector (Some mark) → IsUnique nat_eq new → Knows marks old → Knows (marks ++ mark ∷ []) new
+      → new.entries ≡ insert_entry nat_eq old.entries mark.header.sector mark → Updates nat_eq old new mark.header.sector (Some mark) → IsUnique nat_eq new → Knows marks old
+      → Knows (marks ++ mark ∷ []) new
   knows_winner old new e wins_it entries updates unique knows = at (get nat_eq old mark.header.sector) refl wins_it
     where
       at : (o : Option Mark) → get nat_eq old mark.header.sector ≡ o → wins o mark ≡ true → Knows (marks ++ mark ∷ []) new
@@ -134,7 +136,8 @@ module _ {S : Type 0} (marks : List Mark) (mark : Mark) where
           newer (Some former) w = ap (λ (t : Bool). Some (if t then placed_of mark else placed_of former)) (sym w)
 
           keys_are : (o : Option Mark) → get nat_eq old mark.header.sector ≡ o → keys new ≡ (if is_some o then keys old else keys old ++ mark.header.sector ∷ [])
-          keys_are None there = ap keys_of entries ∙ (ap keys_of (insert_entry-new nat_eq old mark.header.sector mark there) ∙ map-append (λ (e : ℕ × Mark). e.0) old.entries ((mark.header.sector, mark) ∷ []))
+          keys_are None there =
+              ap keys_of entries ∙ (ap keys_of (insert_entry-new nat_eq old mark.header.sector mark there) ∙ map-append (λ (e : ℕ × Mark). e.0) old.entries ((mark.header.sector, mark) ∷ []))
           keys_are (Some former) there = ap keys_of entries ∙ keys-insert_entry-present nat_eq old mark.header.sector mark (ap is_some there)
 
 pub knows_nothing : {S : Type 0} (live : HashMap ℕ Mark S) → IsEmpty live → IsUnique nat_eq live → Knows [] live

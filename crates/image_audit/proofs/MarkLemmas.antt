@@ -16,7 +16,8 @@ one_option : {X : Type 0} (o : Option X) → cons_option o [] ≡ option_to_list
 one_option None = refl
 one_option (Some x) = refl
 
-marks_more : (g : Geometry) (cells : List (List ℕ)) (slots : List Place) (place : Place) → marks_in g cells (slots ++ place ∷ []) ≡ marks_in g cells slots ++ option_to_list (mark_of g cells place (header_in g cells place))
+marks_more : (g : Geometry) (cells : List (List ℕ)) (slots : List Place) (place : Place)
+    → marks_in g cells (slots ++ place ∷ []) ≡ marks_in g cells slots ++ option_to_list (mark_of g cells place (header_in g cells place))
 unfolding marks_in
 marks_more g cells slots place =
     filter_map-append (λ p. mark_of g cells p (header_in g cells p)) slots (place ∷ [])
@@ -33,7 +34,8 @@ read_more g cells slots place old new is below read = record {
   marked = is ∙ (ap (λ (xs : List Mark). xs ++ option_to_list (mark_of g cells place (header_in g cells place))) read.marked ∙ sym (marks_more g cells slots place));
 }
 
-pub first_bad : (g : Geometry) (cells : List (List ℕ)) (page slot : ℕ) → page < page_count g → slot < g.generations → All (LiesBelow g cells) (slots_before g page slot) → LiesBelowNone g cells (at_place page slot)
+pub first_bad : (g : Geometry) (cells : List (List ℕ)) (page slot : ℕ) → page < page_count g → slot < g.generations → All (LiesBelow g cells) (slots_before g page slot)
+    → LiesBelowNone g cells (at_place page slot)
     → IsFirst (LiesBelowNone g cells) (places g) (at_place page slot)
 first_bad g cells page slot h k below bad =
     let split = slots_split g page slot h k in

@@ -15,14 +15,16 @@ use Rattle.image_audit.specs.Verdicts.{placed_in, headers}
 
 -- ---- headers
 
-one_header : (g : Geometry) (cells : List (List ℕ)) (place : Place) (o : Option Header) (ms : List Mark) (hs : List Placed) → map placed_of ms ≡ hs → map placed_of (cons_option (mark_of g cells place o) ms) ≡ cons_option (placed_in place o) hs
+one_header : (g : Geometry) (cells : List (List ℕ)) (place : Place) (o : Option Header) (ms : List Mark) (hs : List Placed) → map placed_of ms ≡ hs
+    → map placed_of (cons_option (mark_of g cells place o) ms) ≡ cons_option (placed_in place o) hs
 one_header g cells place None ms hs e = e
 one_header g cells place (Some h) ms hs e = ap (λ (xs : List Placed). record { place = place; header = h } ∷ xs) e
 
 marked_headers : (g : Geometry) (cells : List (List ℕ)) (slots : List Place) → map placed_of (marks_in g cells slots) ≡ filter_map (λ place. placed_in place (header_in g cells place)) slots
 unfolding marks_in
 marked_headers g cells [] = refl
-marked_headers g cells (place ∷ slots) = one_header g cells place (header_in g cells place) (marks_in g cells slots) (filter_map (λ p. placed_in p (header_in g cells p)) slots) (marked_headers g cells slots)
+marked_headers g cells (place ∷ slots) =
+    one_header g cells place (header_in g cells place) (marks_in g cells slots) (filter_map (λ p. placed_in p (header_in g cells p)) slots) (marked_headers g cells slots)
 
 pub marks_are_headers : (g : Geometry) (cells : List (List ℕ)) → map placed_of (marks_in g cells (places g)) ≡ headers g cells
 unfolding headers
@@ -54,7 +56,8 @@ committed_is g cells place = at (header_in g cells place)
 
 -- ---- the records of a sector
 
-counted_record : (sector : ℕ) (place : Place) (h : Header) (t : Bool) → (if t && (h.sector == sector) then Some (record { place = place; header = h }) else None) ≡ of_sector sector place (if t then Some h else None)
+counted_record : (sector : ℕ) (place : Place) (h : Header) (t : Bool)
+    → (if t && (h.sector == sector) then Some (record { place = place; header = h }) else None) ≡ of_sector sector place (if t then Some h else None)
 counted_record sector place h true = refl
 counted_record sector place h false = refl
 
@@ -63,7 +66,8 @@ cons_counted : (g : Geometry) (cells : List (List ℕ)) (sector : ℕ) (place : 
 cons_counted g cells sector place None ms rs e = e
 cons_counted g cells sector place (Some h) ms rs e = ap₂ (λ (o : Option Placed) (xs : List Placed). cons_option o xs) (counted_record sector place h (is_counted g cells place h)) e
 
-counted_records : (g : Geometry) (cells : List (List ℕ)) (sector : ℕ) (slots : List Place) → filter_map (counted_of sector) (marks_in g cells slots) ≡ filter_map (λ place. of_sector sector place (committed_in g cells place)) slots
+counted_records : (g : Geometry) (cells : List (List ℕ)) (sector : ℕ) (slots : List Place)
+    → filter_map (counted_of sector) (marks_in g cells slots) ≡ filter_map (λ place. of_sector sector place (committed_in g cells place)) slots
 unfolding marks_in
 counted_records g cells sector [] = refl
 counted_records g cells sector (place ∷ slots) =
@@ -101,7 +105,8 @@ sectors_are_found g cells = ap first_met (counted_sectors g cells (places g))
 pub counted_parts : (sector : ℕ) (mark : Mark) (x : Placed) → counted_of sector mark ≡ Some x → (mark.counts ≡ true) × (mark.header.sector ≡ sector) × (x ≡ placed_of mark)
 counted_parts sector mark x e = at mark.counts (mark.header.sector == sector) refl refl e
   where
-    at : (t u : Bool) → mark.counts ≡ t → (mark.header.sector == sector) ≡ u → (if t && u then Some (placed_of mark) else None) ≡ Some x → (mark.counts ≡ true) × (mark.header.sector ≡ sector) × (x ≡ placed_of mark)
+    at : (t u : Bool) → mark.counts ≡ t → (mark.header.sector == sector) ≡ u → (if t && u then Some (placed_of mark) else None) ≡ Some x
+        → (mark.counts ≡ true) × (mark.header.sector ≡ sector) × (x ≡ placed_of mark)
     at true true p q e = (p, eqb-true mark.header.sector sector q, sym (same_Some (placed_of mark) x e))
     at true false p q e = absurd (none-some x e)
     at false u p q e = absurd (none-some x e)

@@ -48,7 +48,8 @@ ordered_slots page a (suc n) = (
   ordered_slots page (a + 1) n,
 )
 
-page_within : (count a n : ℕ) (place : Place) → Member place (flat_map (λ page. map (at_place page) (range_with_len 0 count)) (range_with_len a n)) → (a ≤ place.page) × (place.page < a + n) × (place.slot < count)
+page_within : (count a n : ℕ) (place : Place) → Member place (flat_map (λ page. map (at_place page) (range_with_len 0 count)) (range_with_len a n))
+    → (a ≤ place.page) × (place.page < a + n) × (place.slot < count)
 page_within count a zero place m = absurd m
 page_within count a (suc n) place m = elim (member_parts place (map (at_place a) (range_with_len 0 count)) _ m) [
   | inl here ↦ (let w = slot_within a 0 count place here in let e : place.page ≡ a = w.0 in (omega arith, omega arith, let l : place.slot < 0 + count = w.2 in omega arith))
@@ -80,7 +81,8 @@ placed_parts place (Some h) x e =
     let same = same_Some (record { place = place; header = h }) x e in
     (sym (ap (λ (y : Placed). y.place) same), ap (λ (y : Placed). Some y.header) same)
 
-ordered_kept : (f : Place → Option Placed) → ((place : Place) (x : Placed) → f place ≡ Some x → x.place ≡ place) → (xs : List Place) → Ordered (λ (p : Place). p) xs → Ordered (λ (x : Placed). x.place) (filter_map f xs)
+ordered_kept : (f : Place → Option Placed) → ((place : Place) (x : Placed) → f place ≡ Some x → x.place ≡ place) → (xs : List Place) → Ordered (λ (p : Place). p) xs
+    → Ordered (λ (x : Placed). x.place) (filter_map f xs)
 ordered_kept f there [] h = tt
 ordered_kept f there (p ∷ ps) h = at (ordered_kept f there ps h.1) (f p) refl
   where
@@ -93,7 +95,8 @@ ordered_kept f there (p ∷ ps) h = at (ordered_kept f there ps h.1) (f p) refl
 
 ordered_headers : (g : Geometry) (cells : List (List ℕ)) → Ordered (λ (x : Placed). x.place) (headers g cells)
 unfolding headers
-ordered_headers g cells = ordered_kept (λ place. placed_in place (header_in g cells place)) (λ place x e. (placed_parts place (header_in g cells place) x e).0) (places g) (ordered_pages g.generations 0 (page_count g))
+ordered_headers g cells =
+    ordered_kept (λ place. placed_in place (header_in g cells place)) (λ place x e. (placed_parts place (header_in g cells place) x e).0) (places g) (ordered_pages g.generations 0 (page_count g))
 
 later_apart : (xs : List Placed) (a b : Placed) (rest : List Placed) → Ordered (λ (x : Placed). x.place) (xs ++ a ∷ rest) → Member b rest → a.place ≡ b.place → ⊥
 later_apart [] a b rest h m same = elim (h.0 b m) [

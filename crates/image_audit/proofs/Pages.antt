@@ -15,7 +15,8 @@ page_room g bytes page long h =
     let k : (page + 1) * whole_bytes g ≤ page_count g * whole_bytes g = mul-le-mul_right (whole_bytes g) (let l : page + 1 ≤ page_count g = omega arith in l) in
     omega arith
 
-pub spare_range : (g : Geometry) (bytes : List ℕ) (page : ℕ) → HasLength g bytes → slice_range bytes (page * whole_bytes g + g.main_bytes) (page * whole_bytes g + whole_bytes g) ≡ spare_at g (pages_in g bytes) page
+pub spare_range : (g : Geometry) (bytes : List ℕ) (page : ℕ) → HasLength g bytes
+    → slice_range bytes (page * whole_bytes g + g.main_bytes) (page * whole_bytes g + whole_bytes g) ≡ spare_at g (pages_in g bytes) page
 spare_range g bytes page long =
     let start : ℕ = page * whole_bytes g in
     let rest : ℕ = 16 * g.generations in

@@ -28,7 +28,8 @@ module _ {X Y : Type 0} (p : X → Bool) (f : X → Y) (P : Y → Type 0) (fails
   find_first passes (x ∷ xs) n e = at (find_first passes xs n) (p x) refl e
     where
       at : (find p xs ≡ Some n → IsFirst P (map f xs) (f n)) → (t : Bool) → p x ≡ t → (if t then Some x else find p xs) ≡ Some n → IsFirst P (map f (x ∷ xs)) (f n)
-      at later true q e = subst (λ (m : X). IsFirst P (map f (x ∷ xs)) (f m)) (same_Some x n e) (record { before = []; after = map f xs; split = refl; holds = passes x q; none_before = All-nil (λ y. P y → ⊥) })
+      at later true q e =
+          subst (λ (m : X). IsFirst P (map f (x ∷ xs)) (f m)) (same_Some x n e) (record { before = []; after = map f xs; split = refl; holds = passes x q; none_before = All-nil (λ y. P y → ⊥) })
       at later false q e =
           let rest : IsFirst P (map f xs) (f n) = later e in
           record {
@@ -64,7 +65,8 @@ unfolding first_repeat
 none_repeated [] e a b m n same = absurd m
 none_repeated (mark ∷ marks) e a b m n same = at (λ none k l. none_repeated marks none a b k l same) (with_seq mark.header.seq marks) refl e
   where
-    at : (first_repeat marks ≡ None → Member a (map placed_of marks) → Member b (map placed_of marks) → a ≡ b) → (o : Option Mark) → with_seq mark.header.seq marks ≡ o → repeat_or mark o (first_repeat marks) ≡ None → a ≡ b
+    at : (first_repeat marks ≡ None → Member a (map placed_of marks) → Member b (map placed_of marks) → a ≡ b) → (o : Option Mark) → with_seq mark.header.seq marks ≡ o
+        → repeat_or mark o (first_repeat marks) ≡ None → a ≡ b
     at rest (Some other) w e = absurd (none-some _ (sym e))
     at rest None w e = elim m [
       | inl a_first ↦ elim n [
@@ -94,7 +96,8 @@ unfolding first_repeat
 repeat_found [] first second e = absurd (none-some _ e)
 repeat_found (mark ∷ marks) first second e = at (repeat_found marks first second) (with_seq mark.header.seq marks) refl e
   where
-    at : (first_repeat marks ≡ Some (first, second) → FoundRepeat (map placed_of marks) first second) → (o : Option Mark) → with_seq mark.header.seq marks ≡ o → repeat_or mark o (first_repeat marks) ≡ Some (first, second) → FoundRepeat (map placed_of (mark ∷ marks)) first second
+    at : (first_repeat marks ≡ Some (first, second) → FoundRepeat (map placed_of marks) first second) → (o : Option Mark) → with_seq mark.header.seq marks ≡ o
+        → repeat_or mark o (first_repeat marks) ≡ Some (first, second) → FoundRepeat (map placed_of (mark ∷ marks)) first second
     at rest (Some other) w e =
         let same : (mark.place, other.place) ≡ (first, second) = same_Some _ _ e in
         record {

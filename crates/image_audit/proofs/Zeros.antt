@@ -34,7 +34,8 @@ zeros_at_end [] zeros blank = zeros_alone zeros blank
 zeros_at_end (byte ∷ bytes) zeros blank = ap (unless_zeros byte) (zeros_at_end bytes zeros blank)
 
 -- a step of zeros from here on goes
-pub zeros_go : (bytes : List ℕ) (count step : ℕ) → step ≤ count → is_blank (take (count - (count - step)) (drop (count - step) bytes)) ≡ true → without_zeros (take count bytes) ≡ without_zeros (take (count - step) bytes)
+pub zeros_go : (bytes : List ℕ) (count step : ℕ) → step ≤ count → is_blank (take (count - (count - step)) (drop (count - step) bytes)) ≡ true
+    → without_zeros (take count bytes) ≡ without_zeros (take (count - step) bytes)
 zeros_go bytes count step within blank =
     let parts : count ≡ count - step + (count - (count - step)) = omega arith in
     ap (λ n. without_zeros (take n bytes)) parts

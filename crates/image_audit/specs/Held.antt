@@ -1,5 +1,6 @@
 -- What the cells of a die hold, as the audit tells it: sectors in the order in which they are first found, without zeros at the end.
-use Rattle.std.specs.Prelude.{◌≡◌, ℕ, ◌-◌, Bool, true, false, not, List, [], ◌∷◌, ◌++◌, map, filter, length, replicate, ◌&&◌, ◌==◌, nat_eq, if◌then◌else◌, unwrap_or, Option, Some, None, ◌<◌, slice_index}
+use Rattle.std.specs.Prelude.{◌≡◌, ℕ, ◌-◌, Bool, true, false, not, List, [], ◌∷◌, ◌++◌, map, filter, length, replicate, ◌&&◌, ◌==◌, nat_eq, if◌then◌else◌, unwrap_or, Option, Some, None, ◌<◌}
+use Rattle.std.specs.Prelude.{slice_index}
 use Rattle.std.specs.List.{filter_map, range_with_len}
 use Rattle.std.specs.Map.{lookup}
 use Rattle.zero_count.specs.declared.Header.{Header}

@@ -44,7 +44,8 @@ all_of xs n e = ap (λ (k : ℕ). take k xs) e ∙ whole_list xs
     whole_list (y ∷ ys) = ap (λ (rest : List ℕ). y ∷ rest) (whole_list ys)
 
 -- a text that has got a part which its room has no place for
-pub long_text : (text more : List ℕ) (count : ℕ) (whole : Bool) → Lacks 10 text → EndsOrGoesOn more count whole → count ≤ length more → 1049 < length (text ++ take count more) → IsText (text ++ take count more)
+pub long_text : (text more : List ℕ) (count : ℕ) (whole : Bool) → Lacks 10 text → EndsOrGoesOn more count whole → count ≤ length more → 1049 < length (text ++ take count more)
+    → IsText (text ++ take count more)
 long_text text more count true lacks ended within long = inl (ended_behind text (take count more) lacks ended)
 long_text text more count false lacks goes within long =
     let lacks_more : Lacks 10 (take count more) = subst (Lacks 10) (sym (all_of more count goes.1)) goes.0 in

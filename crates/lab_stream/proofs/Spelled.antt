@@ -114,7 +114,8 @@ earlier_once events more once front back is =
     none_left (bytes_of back) (bytes_of more) (sym (once front (back ++ more) far) ∙ bytes_append back more)
 
 -- lines that are all whole, or the last of which stands at the end
-are_lines : (after : List Event) (front : List ℕ) (lines : List Line) (ahead : List ℕ) → IsScript front lines → Whole front lines [] ⊎ ((ahead ≡ []) × HasEnded after) → AreLines after front lines ahead
+are_lines : (after : List Event) (front : List ℕ) (lines : List Line) (ahead : List ℕ) → IsScript front lines → Whole front lines [] ⊎ ((ahead ≡ []) × HasEnded after)
+    → AreLines after front lines ahead
 are_lines after front lines ahead script (inl closed) = record { script = script; whole = inl (closed.is ∙ append-nil (script_text lines)) }
 are_lines after front lines ahead script (inr over) = record { script = script; whole = inr over }
 

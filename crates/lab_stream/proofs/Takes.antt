@@ -1,5 +1,6 @@
 -- How a text comes, part by part and piece by piece.
-use Rattle.std.proofs.Common.{◌≡◌, inl, inr, ℕ, zero, suc, ◌+◌, ◌<◌, ◌≤◌, Bool, false, None, Some, drop, length-append, List, [], ◌∷◌, ◌++◌, length, refl, ap, sym, ◌∙◌, subst, arith, append_assoc, append-nil}
+use Rattle.std.proofs.Common.{◌≡◌, inl, inr, ℕ, zero, suc, ◌+◌, ◌<◌, ◌≤◌, Bool, false, None, Some, drop, length-append, List, [], ◌∷◌, ◌++◌, length, refl, ap, sym, ◌∙◌, subst, arith}
+use Rattle.std.proofs.Common.{append_assoc, append-nil}
 use Rattle.rssd_io.specs.Event.{Event, HasEnded, HasFailed, moved, bytes_of, failures, since}
 use Rattle.rssd_io.proofs.Logs.{more_came, failures_append, bytes_more, ends_with}
 use Rattle.lab_stream.specs.declared.stream.Stream.{Stream}
@@ -20,7 +21,8 @@ takes_part log old between new text more takes moves = record {
 }
 
 -- a piece more, where nothing was ahead
-pub takes_piece : {S : Type 0} (log : S → List Event) (old between new : Stream S) (text : List ℕ) (some : Bool) → TakesText log old text between → ahead_of between ≡ [] → TakesPiece log between some new → TakesText log old text new
+pub takes_piece : {S : Type 0} (log : S → List Event) (old between new : Stream S) (text : List ℕ) (some : Bool) → TakesText log old text between → ahead_of between ≡ []
+    → TakesPiece log between some new → TakesText log old text new
 takes_piece log old between new text some takes none piece = record {
   events = takes.events ++ moved (ahead_of new) ∷ [];
   came = more_came (log old.source) (log between.source) (log new.source) takes.events (moved (ahead_of new)) takes.came piece.came;
@@ -63,7 +65,8 @@ none_is log old new text (inl ended) takes none = absurd (omega (arith, ap lengt
 none_is log old new text (inr ends) takes none = record { takes = subst (λ (t : List ℕ). TakesText log old t new) none takes; none = ends.none; ended = ends.ended }
 
 -- a text behind which a take found the end of the input
-pub ends_input : {S : Type 0} (log : S → List Event) (old between new : Stream S) (text : List ℕ) → TakesText log old text between → Lacks 10 text → TakesPiece log between false new → EndsInput log old text new
+pub ends_input : {S : Type 0} (log : S → List Event) (old between new : Stream S) (text : List ℕ) → TakesText log old text between → Lacks 10 text → TakesPiece log between false new
+    → EndsInput log old text new
 ends_input log old between new text takes no_feed piece =
     let last : log new.source ≡ log between.source ++ moved [] ∷ [] = subst (λ (bytes : List ℕ). log new.source ≡ log between.source ++ moved bytes ∷ []) (piece.has_none refl) piece.came in
     record {

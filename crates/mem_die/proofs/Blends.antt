@@ -29,7 +29,8 @@ pub bits_blended : (old target mask : ℕ) → mask < 256 → BlendsBits mask ol
 bits_blended old target mask fits bit below =
     chosen (bit_at mask bit) (bit_at target bit) (bit_at old bit) (bit_at (bit_or (bit_and old (255 - mask)) (bit_and target mask)) bit)
     (bit_at-lt mask bit) (bit_at-lt target bit) (bit_at-lt old bit)
-    (let whole : bit_at (bit_or (bit_and old (255 - mask)) (bit_and target mask)) bit ≡ max (bit_at (bit_and old (255 - mask)) bit) (bit_at (bit_and target mask) bit) = bit_at_or (bit_and old (255 - mask)) (bit_and target mask) bit in
+    (let whole : bit_at (bit_or (bit_and old (255 - mask)) (bit_and target mask)) bit
+    ≡ max (bit_at (bit_and old (255 - mask)) bit) (bit_at (bit_and target mask) bit) = bit_at_or (bit_and old (255 - mask)) (bit_and target mask) bit in
     let left : bit_at (bit_and old (255 - mask)) bit ≡ min (bit_at old bit) (bit_at (255 - mask) bit) = bit_at_and old (255 - mask) bit in
     let right : bit_at (bit_and target mask) bit ≡ min (bit_at target bit) (bit_at mask bit) = bit_at_and target mask bit in
     let not : bit_at (255 - mask) bit ≡ 1 - bit_at mask bit = bit_at_not w8 mask bit (omega arith) below in

@@ -29,7 +29,8 @@ first_cut calls form torn old new within is cut =
     let at : 0 ≡ calls - 1 = omega arith in
     subst (λ (n : ℕ). EndsCut n form old new) at (subst (λ (f : Torn). EndsCut 0 f old new) is (cut_at_once torn old new cut))
 
-pub cut_call : (old new : MemDie) (supply : Supply) (torn : Torn) → new.supply ≡ supply → ChangeIsCut torn old.supply supply → IsCut torn (mem_state old) (mem_state new) → ChangeFailed 1 0 (mem_state old) (mem_state new)
+pub cut_call : (old new : MemDie) (supply : Supply) (torn : Torn) → new.supply ≡ supply → ChangeIsCut torn old.supply supply → IsCut torn (mem_state old) (mem_state new)
+    → ChangeFailed 1 0 (mem_state old) (mem_state new)
 cut_call old new supply torn is cuts cut =
     let came : CutCame 1 0 (failures_of old.supply) (failures_of new.supply) = subst (λ (s : Supply). CutCame 1 0 (failures_of old.supply) (failures_of s)) (sym is) cuts.came in
     record {

@@ -43,7 +43,8 @@ module _ (mask : ℕ) (page : List ℕ) (cell : ℕ) (new : List ℕ) (within : 
     ];
   }
 
-pub torn_charge : (torn : Torn) (page : List ℕ) (cell : ℕ) (new : List ℕ) → cell < 8 * length page → new ≡ (if reaches torn cell then charge page cell else page) → IsTorn torn page (charge page cell) new
+pub torn_charge : (torn : Torn) (page : List ℕ) (cell : ℕ) (new : List ℕ) → cell < 8 * length page → new ≡ (if reaches torn cell then charge page cell else page)
+    → IsTorn torn page (charge page cell) new
 torn_charge Nothing page cell new within is = is
 torn_charge All page cell new within is = is
 torn_charge (Mask mask) page cell new within is = blended mask page cell new within (bit_at mask (cell % 64) == 1) refl is

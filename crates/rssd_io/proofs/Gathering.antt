@@ -25,17 +25,21 @@ given_on (Ok x) old new waited gave = record { events = moved waited ∷ []; cam
 given_on (Err e) old new waited gave = tt
 
 -- and then the piece was
-pub given_behind : {E : Type 0} (result : Result (Unit {0}) E) (old between new : List Event) (waited piece : List ℕ) → HandsThrough old between waited [] [] → Gave result piece between new → OnOk result (HandsThrough old new waited [] piece)
+pub given_behind : {E : Type 0} (result : Result (Unit {0}) E) (old between new : List Event) (waited piece : List ℕ) → HandsThrough old between waited [] [] → Gave result piece between new
+    → OnOk result (HandsThrough old new waited [] piece)
 given_behind (Ok x) old between new waited piece through gave = record {
   events = through.events ++ moved piece ∷ [];
   came = more_came old between new through.events (moved piece) through.came gave;
   served = omega (arith, failures_append through.events (moved piece ∷ []), through.served);
-  order = append-nil (bytes_of (through.events ++ moved piece ∷ [])) ∙ (bytes_more through.events piece ∙ ap (λ (xs : List ℕ). xs ++ piece) (sym (append-nil (bytes_of through.events)) ∙ (through.order ∙ append-nil waited)));
+  order =
+      append-nil (bytes_of (through.events ++ moved piece ∷ []))
+      ∙ (bytes_more through.events piece ∙ ap (λ (xs : List ℕ). xs ++ piece) (sym (append-nil (bytes_of through.events)) ∙ (through.order ∙ append-nil waited)));
 }
 given_behind (Err e) old between new waited piece through gave = tt
 
 -- what waited was given, and the sink below was flushed
-pub flushed_below : {E : Type 0} (result : Result (Unit {0}) E) (old between new : List Event) (waited : List ℕ) → HandsThrough old between waited [] [] → Flushed result between new → OnOk result (HandsThrough old new waited [] [])
+pub flushed_below : {E : Type 0} (result : Result (Unit {0}) E) (old between new : List Event) (waited : List ℕ) → HandsThrough old between waited [] [] → Flushed result between new
+    → OnOk result (HandsThrough old new waited [] [])
 flushed_below (Ok x) old between new waited through flushes = record {
   events = through.events ++ flushed ∷ [];
   came = more_came old between new through.events flushed through.came flushes;

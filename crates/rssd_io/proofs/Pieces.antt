@@ -8,11 +8,13 @@ use Rattle.rssd_io.specs.Pieces.{all_given, Gives, HandsOn, StopsIn}
 pub behind : (old between new : List Event) (pieces : List (List ℕ)) (last : Event) → Gives pieces old between → new ≡ between ++ last ∷ [] → new ≡ old ++ (all_given pieces ++ last ∷ [])
 behind old between new pieces last gave came = came ∙ (ap (λ (xs : List Event). xs ++ last ∷ []) gave ∙ append_assoc old (all_given pieces) (last ∷ []))
 
-pub flush_done : {E : Type 0} (result : Result (Unit {0}) E) (old between new : List Event) (pieces : List (List ℕ)) → Gives pieces old between → Flushed result between new → OnOk result (HandsOn pieces old new)
+pub flush_done : {E : Type 0} (result : Result (Unit {0}) E) (old between new : List Event) (pieces : List (List ℕ)) → Gives pieces old between → Flushed result between new
+    → OnOk result (HandsOn pieces old new)
 flush_done (Ok x) old between new pieces gave flushes = behind old between new pieces flushed gave flushes
 flush_done (Err e) old between new pieces gave flushes = tt
 
-pub flush_front : {E : Type 0} (result : Result (Unit {0}) E) (old between new : List Event) (pieces : List (List ℕ)) → Gives pieces old between → Flushed result between new → OnErr result (StopsIn pieces old new)
+pub flush_front : {E : Type 0} (result : Result (Unit {0}) E) (old between new : List Event) (pieces : List (List ℕ)) → Gives pieces old between → Flushed result between new
+    → OnErr result (StopsIn pieces old new)
 flush_front (Ok x) old between new pieces gave flushes = tt
 flush_front (Err e) old between new pieces gave flushes = inr (behind old between new pieces failed gave flushes)
 

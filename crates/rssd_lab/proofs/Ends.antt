@@ -35,7 +35,8 @@ use Rattle.rssd_lab.specs.Stages.{StartOn, head_on}
 use Rattle.rssd_lab.specs.Started.{RunsFrom, StopsFrom}
 use Rattle.rssd_lab.specs.Top.{GivesLine, SaysStopped, bad_line}
 use Rattle.rssd_lab.specs.Listed.{RunHalts, PlaysList, StopsList}
-use Rattle.rssd_lab.specs.Ends.{StopsInput, StopsDrawn, PlaysInput, PlaysDrawn, HaltsInput, HaltsDrawn, HaltsOf, StopsOf, plan_for, IsOutside, IsUnplayed, IsCutOff, IsShortOfMemory, IsShortOfDrawn, IsUntold, IsUntoldDrawn}
+use Rattle.rssd_lab.specs.Ends.{StopsInput, StopsDrawn, PlaysInput, PlaysDrawn, HaltsInput, HaltsDrawn, HaltsOf, StopsOf, plan_for, IsOutside, IsUnplayed, IsCutOff, IsShortOfMemory}
+use Rattle.rssd_lab.specs.Ends.{IsShortOfDrawn, IsUntold, IsUntoldDrawn}
 use Rattle.rssd_lab.proofs.Stopped.{sink_failed}
 use Rattle.rssd_lab.proofs.Listed.{AllListed, ListedUpTo, ListedUnplayed, ListedUntold, all_listed, listed_up_to, listed_unplayed, listed_untold}
 

@@ -38,7 +38,8 @@ module _ (telling : Telling) (device : DeviceValue) (score : Score) (tally : Tal
       let b = all_given (block_table (counted_of tally) (blocks_of tally)) in
       let two = came_behind old row kinds h k row_given kinds_given in
       came_behind old kinds blocks (h ++ k) b two blocks_given
-      ∙ ap (λ (log : List Event). old ++ log) (append_assoc h k b ∙ ap (λ (log : List Event). h ++ log) (sym (given_append (kind_table score.answers) (block_table (counted_of tally) (blocks_of tally)))))
+      ∙ ap (λ (log : List Event). old ++ log) (append_assoc h k b
+      ∙ ap (λ (log : List Event). h ++ log) (sym (given_append (kind_table score.answers) (block_table (counted_of tally) (blocks_of tally)))))
 
   pub tells_ok : {E : Type 0} (r : Result (Unit {0}) E) (new : List Event) → Covers device.view.die.shape tally → Flushed r blocks new → OnOk r (TellsAtEnd telling device score old new)
   tells_ok (Ok x) new covers flushes = record { tally = tally; covers = covers; log = came_behind old blocks new _ (flushed ∷ []) tables flushes }

@@ -30,10 +30,12 @@ use Rattle.rssd_run.proofs.WriteSteps.{event_of}
 use Rattle.rssd_run.proofs.Stepped.{array_runs, array_stops, wrote_steps, write_fault_steps, trimmed_steps, trim_fault_steps, idled_steps, idle_fault_steps, read_steps, read_fault_steps}
 use Rattle.rssd_run.proofs.Refused.{Stays, still_steps, off_step, write_range, write_long, write_spent, read_range, trim_range, trim_spent}
 use Rattle.rssd_run.proofs.Sessions.{runs_array, stops_array, shows_stands, small_plus}
-use Rattle.rssd_run.proofs.PlayedSteps.{step_played, played_book, played_first, played_second, played_declined, played_write_read_fault, played_write_change_fault, played_trim, played_trim_read_fault, played_trim_change_fault, played_idle, played_idle_read_fault, played_idle_change_fault, played_read, played_read_fault}
+use Rattle.rssd_run.proofs.PlayedSteps.{step_played, played_book, played_first, played_second, played_declined, played_write_read_fault, played_write_change_fault, played_trim}
+use Rattle.rssd_run.proofs.PlayedSteps.{played_trim_read_fault, played_trim_change_fault, played_idle, played_idle_read_fault, played_idle_change_fault, played_read, played_read_fault}
 
 -- a write that was placed
-pub answered_wrote : (d : Numbers) (sector : ℕ) (bytes : List ℕ) (placed : Placed) (old new : DeviceValue) → WroteSo d sector bytes placed old new → AnsweredWrite d sector bytes (reply_of placed) old new
+pub answered_wrote : (d : Numbers) (sector : ℕ) (bytes : List ℕ) (placed : Placed) (old new : DeviceValue) → WroteSo d sector bytes placed old new
+    → AnsweredWrite d sector bytes (reply_of placed) old new
 answered_wrote d sector bytes PutFirst old new a = a
 answered_wrote d sector bytes PutSecond old new a = a
 answered_wrote d sector bytes PutDeclined old new a = a
@@ -97,7 +99,8 @@ module _ (d : Numbers) (old new : DeviceValue) (running : old.stopped ≡ false)
 
   plays_fault : (line : Line) (Within : ℕ → ℕ → Type 0) (done : List (List ℕ)) → Faulted d Within done old new
       → (ReadFault d Within old new → (base : Tallies) → IsPlayedStep d (event_of line Fault (on d base old) (on d base new)))
-      → (IsSound d.geometry old.view.die.cells → ChangeFault d Within done old new → (base : Tallies) → IsPlayedStep d (event_of line Fault (on d base old) (off base new (Off (rows_of d old.view) done))))
+      → (IsSound d.geometry old.view.die.cells → ChangeFault d Within done old new → (base : Tallies)
+      → IsPlayedStep d (event_of line Fault (on d base old) (off base new (Off (rows_of d old.view) done))))
       → Plays d line Fault old new
   plays_fault line Within done (inl f) read change = plays_on line Fault f.running (read f)
   plays_fault line Within done (inr f) read change = plays_from line Fault (λ base sound book.
@@ -105,7 +108,8 @@ module _ (d : Numbers) (old new : DeviceValue) (running : old.stopped ≡ false)
       (Off (rows_of d old.view) done, array_stops new.stopped f.stopped (rows_of d new.view) (rows_of d old.view) done s.stands_after, s))
 
 -- a line that leaves a view as it is, on a die that need not tell its power
-stays_played : (d : Numbers) (v : View) (line : Line) (reply : Reply) → IsPlayed line → StandsFor d v → TrueWhileOn d v → v.device.first < 2 ^ 64 → v.device.second < 2 ^ 64 → v.device.declined < 2 ^ 64
+stays_played : (d : Numbers) (v : View) (line : Line) (reply : Reply) → IsPlayed line → StandsFor d v → TrueWhileOn d v → v.device.first < 2 ^ 64 → v.device.second < 2 ^ 64
+    → v.device.declined < 2 ^ 64
     → Stays d v line reply → IsPlayedStep d (event_of line reply v v)
 stays_played d v line reply is stands book small_first small_second small_declined s =
     let e : Event = event_of line reply v v in
@@ -150,7 +154,8 @@ module _ (d : Numbers) (old new : DeviceValue) (running : old.stopped ≡ false)
   write_plays sector bytes Second a = plays_on d old new running (Write sector bytes) Second a.wrote.running (λ base. played_second d base old new sector bytes a)
   write_plays sector bytes Declined a = plays_on d old new running (Write sector bytes) Declined a.wrote.running (λ base. played_declined d base old new sector bytes a)
   write_plays sector bytes Fault a =
-      plays_fault d old new running (Write sector bytes) (WithinWrite d old.view (filled_up d.geometry.sector_bytes bytes)) (written d.geometry.sector_bytes (rows_of d old.view) sector bytes) a.fault.fault
+      plays_fault d old new running (Write sector bytes) (WithinWrite d old.view (filled_up d.geometry.sector_bytes bytes))
+      (written d.geometry.sector_bytes (rows_of d old.view) sector bytes) a.fault.fault
       (λ f base. played_write_read_fault d base old new sector bytes a f) (λ sound f base. played_write_change_fault d base old new sector bytes a sound f)
   write_plays sector bytes Range (far, same) = plays_same (Write sector bytes) Range tt same (λ base. write_range d old base sector bytes far)
   write_plays sector bytes Long (near, many, same) = plays_same (Write sector bytes) Long tt same (λ base. write_long d old base sector bytes near many)
@@ -196,7 +201,8 @@ stopped_plays d old line stopped is base before shows sound book = (
   before,
   shows,
   step_played d before before line SaysOff is
-      (off_step d before line (shows_stands d base (Mounted old) before shows) (stops_array old.stopped stopped (rows_of d old.view) before.array shows.1) (rw shows.0 (small_plus base old.view)) (played_line line is)),
+      (off_step d before line (shows_stands d base (Mounted old) before shows) (stops_array old.stopped stopped (rows_of d old.view) before.array shows.1) (rw shows.0 (small_plus base old.view))
+      (played_line line is)),
 )
   where
     played_line : (line : Line) → IsPlayed line → AlwaysAnswered line → ⊥

@@ -1,5 +1,6 @@
 -- A die with no charged cell: no header stands there. So its cells are sound, no block has a live record, and all sectors are zeros.
-use Rattle.std.proofs.Common.{◌≡◌, inl, inr, ℕ, zero, suc, ◌+◌, ◌-◌, ◌*◌, ◌<◌, ◌≤◌, Bool, true, false, List, [], ◌∷◌, map, take, drop, length, replicate, get_or, Option, Some, None, if◌then◌else◌, refl, sym, ap, ap₂, ◌∙◌, arith, subst}
+use Rattle.std.proofs.Common.{◌≡◌, inl, inr, ℕ, zero, suc, ◌+◌, ◌-◌, ◌*◌, ◌<◌, ◌≤◌, Bool, true, false, List, [], ◌∷◌, map, take, drop, length, replicate, get_or, Option, Some, None}
+use Rattle.std.proofs.Common.{if◌then◌else◌, refl, sym, ap, ap₂, ◌∙◌, arith, subst}
 use Rattle.std.specs.List.{count_by, filter_map, range_with_len, cons_option}
 use Rattle.std.proofs.lemmas.Bool.{cases_lt}
 use Rattle.std.proofs.lemmas.List.{get_or_past, take-replicate, drop-replicate}
@@ -45,8 +46,11 @@ no_header_in_zeros n h e = let kind = (valid_parts (zeros n) (header_valid (zero
 -- the word of a slot of a page of zeros
 zero_word : (m n slot : ℕ) → (j : ℕ) × (word_at (drop m (zeros n)) slot ≡ zeros j)
 zero_word m n slot =
-    let front = front_of_zeros (16 * slot + 15 - (16 * slot + 1)) (n - m - (16 * slot + 1)) in
-    (front.0, ap (λ (xs : List ℕ). take (16 * slot + 15 - (16 * slot + 1)) (drop (16 * slot + 1) xs)) (drop-replicate m n 0) ∙ (ap (take (16 * slot + 15 - (16 * slot + 1))) (drop-replicate (16 * slot + 1) (n - m) 0) ∙ front.1))
+    let front = front_of_zeros (16 * slot + 15 - (16 * slot + 1)) (n - m - (16 * slot + 1)) in (
+      front.0,
+      ap (λ (xs : List ℕ). take (16 * slot + 15 - (16 * slot + 1)) (drop (16 * slot + 1) xs)) (drop-replicate m n 0)
+          ∙ (ap (take (16 * slot + 15 - (16 * slot + 1))) (drop-replicate (16 * slot + 1) (n - m) 0) ∙ front.1),
+    )
 
 zero_page : (g : Geometry) (cells : List (List ℕ)) → IsBlank g cells → (page : ℕ) → (n : ℕ) × (page_at cells page ≡ zeros n)
 zero_page g cells b page = elim (cases_lt page (page_count g)) [
@@ -136,7 +140,8 @@ below_first : (g : Geometry) (cells : List (List ℕ)) → IsBlank g cells → (
 below_first g cells b page slot within fits =
     let h : Header = record { sector = 0; seq = 0; kind = 1 } in
     let valid : is_valid (spelling h) ≡ true = spelled_valid h first_is_header in
-    let word : word_at (spare_at g cells page) slot ≡ blank_page 14 = ap (λ (bytes : List ℕ). word_at (drop g.main_bytes bytes) slot) (b.blank page within) ∙ blank_word g.main_bytes g.generations slot fits in
+    let word : word_at (spare_at g cells page) slot ≡ blank_page 14 =
+    ap (λ (bytes : List ℕ). word_at (drop g.main_bytes bytes) slot) (b.blank page within) ∙ blank_word g.main_bytes g.generations slot fits in
     (spelling h, valid, subst (IsAbove (spelling h)) (sym word) (above_blank (spelling h) 14 (valid_parts (spelling h) valid).long))
 
 pub blank_sound : (g : Geometry) (cells : List (List ℕ)) → 0 < g.blocks → IsBlank g cells → IsSound g cells

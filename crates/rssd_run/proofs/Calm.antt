@@ -113,7 +113,8 @@ mount_on rows NoSpare next row good spare memory = absurd (spare refl)
 mount_on rows NoMemory next row good spare memory = absurd (memory refl)
 mount_on rows reply next row good spare memory = absurd row
 
-line_on : (size : ℕ) (rows : List (List ℕ)) (line : Line) (reply : Reply) (next : ArrayState) → OnRow size rows line reply next → (reply ≡ Fault → ⊥) → (reply ≡ NoSpare → ⊥) → (reply ≡ NoMemory → ⊥) → IsOn next
+line_on : (size : ℕ) (rows : List (List ℕ)) (line : Line) (reply : Reply) (next : ArrayState) → OnRow size rows line reply next → (reply ≡ Fault → ⊥) → (reply ≡ NoSpare → ⊥)
+    → (reply ≡ NoMemory → ⊥) → IsOn next
 line_on size rows (Write sector bytes) reply next row good spare memory = write_on rows (written size rows sector bytes) reply next row good
 line_on size rows (Read sector) reply next row good spare memory = read_on rows (slice_index_or rows sector []) reply next row
 line_on size rows (Trim sector) reply next row good spare memory = trim_on rows (trimmed size rows sector) reply next row good
@@ -123,7 +124,8 @@ line_on size rows (FailRead n) reply next row good spare memory = arm_on rows re
 line_on size rows Mount reply next row good spare memory = mount_on rows reply next row good spare memory
 line_on size rows Stat reply next row good spare memory = stat_on rows reply next row
 
-row_on : (size : ℕ) (array : ArrayState) (line : Line) (reply : Reply) (next : ArrayState) → IsOn array → Row size array line reply next → (reply ≡ Fault → ⊥) → (reply ≡ NoSpare → ⊥) → (reply ≡ NoMemory → ⊥) → IsOn next
+row_on : (size : ℕ) (array : ArrayState) (line : Line) (reply : Reply) (next : ArrayState) → IsOn array → Row size array line reply next → (reply ≡ Fault → ⊥) → (reply ≡ NoSpare → ⊥)
+    → (reply ≡ NoMemory → ⊥) → IsOn next
 row_on size (On rows) line reply next on row good spare memory = line_on size rows line reply next row good spare memory
 row_on size (Off old new) line reply next on row good spare memory = absurd on
 
@@ -218,7 +220,8 @@ step_unarmed d e step unarmed other =
 
 -- ---- whole runs
 
-runs_on : (d : Numbers) (before : View) (events : List Event) (after : View) → IsRun d before events after → IsUnarmed d before → IsOn before.array → AllByRecursion (λ (e : Event). is_arming e.line ≡ false) events → OffAfterNoMemory events
+runs_on : (d : Numbers) (before : View) (events : List Event) (after : View) → IsRun d before events after → IsUnarmed d before → IsOn before.array
+    → AllByRecursion (λ (e : Event). is_arming e.line ≡ false) events → OffAfterNoMemory events
 unfolding IsRun
 runs_on d before [] after run unarmed on none = tt
 runs_on d before (e ∷ events) after run unarmed on none =
@@ -230,7 +233,8 @@ runs_on d before (e ∷ events) after run unarmed on none =
           (row_on d.geometry.sector_bytes e.before.array e.line e.reply e.after.array on_here run.1.row never.no_fault never.no_spare_found memory) none.1,
     )
 
-runs_never_fail : (d : Numbers) (before : View) (events : List Event) (after : View) → IsRun d before events after → IsUnarmed d before → AllByRecursion (λ (e : Event). is_arming e.line ≡ false) events → AllByRecursion NeverFails events
+runs_never_fail : (d : Numbers) (before : View) (events : List Event) (after : View) → IsRun d before events after → IsUnarmed d before
+    → AllByRecursion (λ (e : Event). is_arming e.line ≡ false) events → AllByRecursion NeverFails events
 unfolding IsRun
 runs_never_fail d before [] after run unarmed none = tt
 runs_never_fail d before (e ∷ events) after run unarmed none =
@@ -241,7 +245,8 @@ each_line : (events : List Event) → All (λ line. is_arming line ≡ false) (l
 each_line [] none = tt
 each_line (e ∷ events) none = (All-head (λ line. is_arming line ≡ false) e.line (lines_of events) none, each_line events (All-tail (λ line. is_arming line ≡ false) e.line (lines_of events) none))
 
-pub runs_calmly : (d : Numbers) (before : View) (events : List Event) (after : View) → IsRun d before events after → IsUnarmed d before → IsOn before.array → All (λ line. is_arming line ≡ false) (lines_of events) → IsCalm events
+pub runs_calmly : (d : Numbers) (before : View) (events : List Event) (after : View) → IsRun d before events after → IsUnarmed d before → IsOn before.array
+    → All (λ line. is_arming line ≡ false) (lines_of events) → IsCalm events
 runs_calmly d before events after run unarmed on none = record {
   never_fail = All-from_recursion NeverFails events (runs_never_fail d before events after run unarmed (each_line events none));
   off = runs_on d before events after run unarmed on (each_line events none);

@@ -52,8 +52,25 @@ unfinished_plus d base old new n m = record {
   by_rule = m.by_rule;
   one_more = m.one_more;
   unfinished = elim m.unfinished [
-    | inl unread ↦ inl (record { cells = unread.cells; seq = unread.seq; recycled = unread.recycled; victim = unread.victim; is_victim = unread.is_victim; failed = unread.failed; by_then = unread.by_then })
-    | inr broken ↦ inr (record { rows = broken.rows; seq = broken.seq; book = broken.book; victim = broken.victim; is_victim = broken.is_victim; first = broken.first; is_first = broken.is_first; failed = broken.failed })
+    | inl unread ↦ inl (record {
+      cells = unread.cells;
+      seq = unread.seq;
+      recycled = unread.recycled;
+      victim = unread.victim;
+      is_victim = unread.is_victim;
+      failed = unread.failed;
+      by_then = unread.by_then;
+    })
+    | inr broken ↦ inr (record {
+      rows = broken.rows;
+      seq = broken.seq;
+      book = broken.book;
+      victim = broken.victim;
+      is_victim = broken.is_victim;
+      first = broken.first;
+      is_first = broken.is_first;
+      failed = broken.failed;
+    })
   ];
 }
 
@@ -116,7 +133,8 @@ trim_read_fault d base old new sector in_range power holds w f =
         tallies = record { first = omega (arith, w.counts.first); second = omega (arith, w.counts.second); declined = omega (arith, w.counts.declined) };
       };
       true_book = λ h. holds.true_book f.running;
-      moves = (record { book = plus_book d base old.view new.view (λ rise at came. at power came) (trim_book_so d old new sector false f.running w); seq = plus_seq d base old.view new.view w.seq }, tt);
+      moves =
+          (record { book = plus_book d base old.view new.view (λ rise at came. at power came) (trim_book_so d old new sector false f.running w); seq = plus_seq d base old.view new.view w.seq }, tt);
       armed = record {
         arms = tt;
         lowers = λ a not. absurd (not refl);
@@ -160,7 +178,8 @@ trim_change_fault d base old new sector in_range power calm holds w f =
         tallies = record { first = omega (arith, w.counts.first); second = omega (arith, w.counts.second); declined = omega (arith, w.counts.declined) };
       };
       true_book = λ on. absurd on;
-      moves = (record { book = plus_book d base old.view new.view (λ rise at came. at power came) (trim_book_so d old new sector true f.stopped w); seq = plus_seq d base old.view new.view w.seq }, tt);
+      moves =
+          (record { book = plus_book d base old.view new.view (λ rise at came. at power came) (trim_book_so d old new sector true f.stopped w); seq = plus_seq d base old.view new.view w.seq }, tt);
       armed = record {
         arms = tt;
         lowers = λ a not. absurd (not refl);
@@ -199,7 +218,8 @@ idled_step d base old new n k power holds w =
         tallies = record { first = omega (arith, w.counts.first); second = omega (arith, w.counts.second); declined = omega (arith, w.counts.declined) };
       };
       true_book = λ h. holds.true_book w.running;
-      moves = (record { book = plus_book d base old.view new.view (λ rise at came. at power came) w.book; seq = plus_seq d base old.view new.view w.seq }, moves_plus d base old.view new.view k w.moves);
+      moves =
+          (record { book = plus_book d base old.view new.view (λ rise at came. at power came) w.book; seq = plus_seq d base old.view new.view w.seq }, moves_plus d base old.view new.view k w.moves);
       armed = record { arms = tt; lowers = λ a f. lowers; fault = λ h. cc };
       power = λ on tells. went_power old.view.die new.view.die power (bounded w.calls);
       leaves = w.erases;
@@ -232,7 +252,10 @@ idle_read_fault d base old new n power holds w f =
         tallies = record { first = omega (arith, w.counts.first); second = omega (arith, w.counts.second); declined = omega (arith, w.counts.declined) };
       };
       true_book = λ h. holds.true_book f.running;
-      moves = (record { book = plus_book d base old.view new.view (λ rise at came. at power came) w.book; seq = plus_seq d base old.view new.view w.seq }, unfinished_plus d base old.view new.view n w.moves);
+      moves = (
+        record { book = plus_book d base old.view new.view (λ rise at came. at power came) w.book; seq = plus_seq d base old.view new.view w.seq },
+        unfinished_plus d base old.view new.view n w.moves,
+      );
       armed = record {
         arms = tt;
         lowers = λ a not. absurd (not refl);
@@ -276,7 +299,10 @@ idle_change_fault d base old new n power calm holds w f =
         tallies = record { first = omega (arith, w.counts.first); second = omega (arith, w.counts.second); declined = omega (arith, w.counts.declined) };
       };
       true_book = λ on. absurd on;
-      moves = (record { book = plus_book d base old.view new.view (λ rise at came. at power came) w.book; seq = plus_seq d base old.view new.view w.seq }, unfinished_plus d base old.view new.view n w.moves);
+      moves = (
+        record { book = plus_book d base old.view new.view (λ rise at came. at power came) w.book; seq = plus_seq d base old.view new.view w.seq },
+        unfinished_plus d base old.view new.view n w.moves,
+      );
       armed = record {
         arms = tt;
         lowers = λ a not. absurd (not refl);

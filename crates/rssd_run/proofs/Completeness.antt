@@ -16,7 +16,8 @@ use Rattle.rssd_run.specs.Run.{pieces_of}
 use Rattle.rssd_run.specs.MakeRuns.{SaysMake}
 use Rattle.rssd_run.proofs.AuditLaws.{found_again}
 use Rattle.rssd_run.proofs.CallStops.{stopped, unflushed, never_refused}
-use Rattle.rssd_run.specs.Top.{SaysOf, SaysReplay, SaysRun, SaysFormat, SaysUpgrade, IsRunCutOff, IsBadImage, IsNoImage, HasScript, HasImage, HasOldImage, NoneFailed, IsComplete, SaysAudit, HasSoundImage, IsRefused, HasPlayed, PlaysScript, HasUnplayed, SaysPlay, SaysQueue}
+use Rattle.rssd_run.specs.Top.{SaysOf, SaysReplay, SaysRun, SaysFormat, SaysUpgrade, IsRunCutOff, IsBadImage, IsNoImage, HasScript, HasImage, HasOldImage, NoneFailed, IsComplete, SaysAudit}
+use Rattle.rssd_run.specs.Top.{HasSoundImage, IsRefused, HasPlayed, PlaysScript, HasUnplayed, SaysPlay, SaysQueue}
 use Rattle.rssd_core.specs.DeviceValue.{Numbers}
 use Rattle.rssd_script.specs.declared.lines.Line.{Line}
 use Rattle.rssd_script.specs.declared.lines.Line.TheVariants.{Mount}
@@ -78,7 +79,8 @@ replay_completes head call BadWords says script none = absurd says
 replay_completes head call BadImage says script none = absurd says
 replay_completes head call Unsound says script none = absurd says
 
-run_completes : (call : Call) (status : Status) → SaysRun call.image call.script call.out call.image_out status → HasScript call → HasImage call → NoneFailed call → (status ≡ Done) ⊎ (status ≡ OutOfMemory)
+run_completes : (call : Call) (status : Status) → SaysRun call.image call.script call.out call.image_out status → HasScript call → HasImage call → NoneFailed call
+    → (status ≡ Done) ⊎ (status ≡ OutOfMemory)
 run_completes call Done says script image none = inl refl
 run_completes call OutOfMemory says script image none = inr refl
 run_completes call BadScript says script image none = absurd (never_refused call script says.0)

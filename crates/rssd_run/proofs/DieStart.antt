@@ -143,7 +143,8 @@ start_uncut : (head : ImageHead) (die : DieState) (view : View) → IsQuiet die 
 start_uncut head die view quiet start =
     ap (λ (v : DeviceView). cut_of v.die) start.same ∙ (quiet_after _ _ die.failures start.device.view.die.failures quiet start.mounts.calls.failures).0
 
-calm_before : (head : ImageHead) (die : DieState) (view : View) (lines : List Line) → IsQuiet die → IsStart head die view → CalmFor (numbers_named head) die lines → CalmFor (numbers_named head) view.device.die lines
+calm_before : (head : ImageHead) (die : DieState) (view : View) (lines : List Line) → IsQuiet die → IsStart head die view → CalmFor (numbers_named head) die lines
+    → CalmFor (numbers_named head) view.device.die lines
 calm_before head die view lines quiet start calm = elim calm [
   | inl sound ↦ inl (subst (IsSound (numbers_named head).geometry) (sym (start_cells head die view start)) sound)
   | inr uncut ↦ inr (start_uncut head die view quiet start, uncut.1)

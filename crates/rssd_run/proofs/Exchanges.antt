@@ -36,7 +36,8 @@ played_on d (Idle n) reply old new is answered = answered
 played_on d line reply old new is answered = absurd is
 
 -- a line that a device answers
-device_line : (d : Numbers) (line : Line) (reply : Reply) (old new : SessionValue) → IsDeviceLine line → new.base ≡ old.base → AnsweredBy d line reply old.holding new.holding → AnswersSession d line reply old new
+device_line : (d : Numbers) (line : Line) (reply : Reply) (old new : SessionValue) → IsDeviceLine line → new.base ≡ old.base → AnsweredBy d line reply old.holding new.holding
+    → AnswersSession d line reply old new
 device_line d (Write sector bytes) reply old new is base by = (base, by)
 device_line d (Read sector) reply old new is base by = (base, by)
 device_line d (Trim sector) reply old new is base by = (base, by)
@@ -59,7 +60,8 @@ module _ {D C F : Type 0} (state : D → DieState) (meaning : C → Meaning) (de
     here : HasNumbers d (session_of state meaning device p).holding
     here = subst (λ (q : Parts D C F). HasNumbers d (session_of state meaning device q).holding) (sym is) numbers
 
-    from : (line : Line) (reply : Reply) (new : SessionValue) → AnswersSession d line reply (session_of state meaning device p) new → AnswersSession d line reply (session_of state meaning device old) new
+    from : (line : Line) (reply : Reply) (new : SessionValue) → AnswersSession d line reply (session_of state meaning device p) new
+        → AnswersSession d line reply (session_of state meaning device old) new
     from line reply new answers = subst (λ (q : Parts D C F). AnswersSession d line reply (session_of state meaning device q) new) is answers
 
     pub no_device_answers : p.mounted ≡ None → (line : Line) → IsDeviceLine line → AnswersSession d line SaysOff (session_of state meaning device old) (session_of state meaning device p)
@@ -76,7 +78,8 @@ module _ {D C F : Type 0} (state : D → DieState) (meaning : C → Meaning) (de
         (device_line d line SaysOff (session_of state meaning device p) new device_is refl
         (subst (λ (h : Holding). AnsweredBy d line SaysOff h (Mounted (device ftl))) (sym (mounted_holding state meaning device p ftl some)) (inl (stopped, refl, refl))))
 
-    pub running_answers : (ftl next : F) (line : Line) (reply : Reply) → p.mounted ≡ Some ftl → (device ftl).stopped ≡ false → IsDeviceLine line → AnsweredOn (device ftl).numbers line reply (device ftl) (device next)
+    pub running_answers : (ftl next : F) (line : Line) (reply : Reply) → p.mounted ≡ Some ftl → (device ftl).stopped ≡ false → IsDeviceLine line
+        → AnsweredOn (device ftl).numbers line reply (device ftl) (device next)
         → AnswersSession d line reply (session_of state meaning device old) (record { base = tallies p.base; holding = Mounted (device next) })
     running_answers ftl next line reply some running device_is answered =
         let new : SessionValue = record { base = tallies p.base; holding = Mounted (device next) } in
@@ -147,7 +150,8 @@ module _ {D C F : Type 0} (state : D → DieState) (meaning : C → Meaning) (de
 
       pub refusal_answers : (mounted : Option F) (left : D × C) (why : MountError) → mounted ≡ None → (state left.0).shape ≡ (state pair.0).shape → meaning left.1 ≡ meaning pair.1
           → Refuses (numbers_of (state pair.0).shape (meaning pair.1) p.plan) (told with_power (state pair.0)) (state left.0) why
-          → AnswersSession d Mount (refusal_reply why) (session_of state meaning device old) (session_of state meaning device (record { mounted = mounted; closed = Some left; plan = p.plan; base = base }))
+          → AnswersSession d Mount (refusal_reply why) (session_of state meaning device old)
+          (session_of state meaning device (record { mounted = mounted; closed = Some left; plan = p.plan; base = base }))
       refusal_answers mounted left why none shape_is meaning_is refuses =
           let parts : Parts D C F = record { mounted = mounted; closed = Some left; plan = p.plan; base = base } in
           let numbers_left : numbers_of (state left.0).shape (meaning left.1) p.plan ≡ d = (λ i. numbers_of (shape_is i) (meaning_is i) p.plan) ∙ same_numbers in
@@ -201,7 +205,8 @@ module _ (d : Numbers) (before now after : SessionValue) (lines : List Line) (li
       }
 
   -- one line more, of whose text a front was given
-  pub answers_cut_off : (all : List Line) → lines ++ line ∷ [] ≡ take (length lines + 1) all → (front : ℕ) → log_after ≡ between ++ moved (take front (reply_line reply)) ∷ failed ∷ [] → AnswersFront d before all after log log_after
+  pub answers_cut_off : (all : List Line) → lines ++ line ∷ [] ≡ take (length lines + 1) all → (front : ℕ) → log_after ≡ between ++ moved (take front (reply_line reply)) ∷ failed ∷ []
+      → AnswersFront d before all after log log_after
   answers_cut_off all front_is front given =
       let x : Exchange = record { line = line; reply = reply; before = now; after = after } in
       record {
@@ -210,7 +215,9 @@ module _ (d : Numbers) (before now after : SessionValue) (lines : List Line) (li
         answered = answered_more d before a.exchanges now x a.answered refl answers;
         of_lines = asked_more a.exchanges x ∙ (ap (λ ls. ls ++ line ∷ []) a.of_lines ∙ (front_is ∙ ap (λ n. take (n + 1) all) (ap length (sym a.of_lines) ∙ length_asked a.exchanges)));
         front = front;
-        given = given ∙ (ap (λ (xs : List Act). xs ++ moved (take front (reply_line reply)) ∷ failed ∷ []) a.given ∙ append_assoc log (all_given (told_of a.exchanges)) (moved (take front (reply_line reply)) ∷ failed ∷ []));
+        given =
+            given ∙ (ap (λ (xs : List Act). xs ++ moved (take front (reply_line reply)) ∷ failed ∷ []) a.given
+            ∙ append_assoc log (all_given (told_of a.exchanges)) (moved (take front (reply_line reply)) ∷ failed ∷ []));
       }
     where
       length_asked : (exchanges : List Exchange) → length (asked_of exchanges) ≡ length exchanges

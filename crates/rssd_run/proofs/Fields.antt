@@ -20,7 +20,8 @@ use Rattle.rssd_run.specs.View.{View}
 use Rattle.rssd_run.specs.Held.{Tallies, tallies_of, added_tallies}
 use Rattle.rssd_run.specs.Step.{AlwaysAnswered}
 use Rattle.rssd_run.specs.Steps.{Steps, IsKept, MountDone, MountRefused, refusal_reply}
-use Rattle.rssd_run.specs.Shows.{HasDie, Holding, Mounted, Closed, HasNumbers, AreSmall, Parts, SessionValue, ShowsHolding, StepsSession, IsPlanned, IsHeld, IsSession, IsDeviceLine, holding_of, session_of, tallies, stat_of, SaysStat}
+use Rattle.rssd_run.specs.Shows.{HasDie, Holding, Mounted, Closed, HasNumbers, AreSmall, Parts, SessionValue, ShowsHolding, StepsSession, IsPlanned, IsHeld, IsSession, IsDeviceLine, holding_of}
+use Rattle.rssd_run.specs.Shows.{session_of, tallies, stat_of, SaysStat}
 use Rattle.rssd_run.proofs.Sessions.{running_steps, stopped_down, closed_down, off_steps, stat_steps, IsClosed, mounted_steps, refused_steps}
 
 -- a line that a device answers is none that is always answered
@@ -39,7 +40,9 @@ device_line Stat is always = is
 counted : (d : Numbers) (base : Tallies) (device : DeviceValue) (counts : Counts) (erases : ℕ) → tallies counts ≡ added_tallies base (tallies_of device.view) → erases ≡ sum_of device.view.die.erases
     → (view : View) → ShowsHolding d base (Mounted device) view → Counted counts.first counts.second counts.declined counts.moved erases ≡ stat_of view
 counted d base device counts erases counts_are erases_are view shows =
-    let here : Counted counts.first counts.second counts.declined counts.moved erases ≡ Counted (count_sum base.first device.view.first) (count_sum base.second device.view.second) (count_sum base.declined device.view.declined) (count_sum base.moved device.view.moved) (sum_of device.view.die.erases)
+    let here : Counted counts.first counts.second counts.declined counts.moved erases
+    ≡ Counted (count_sum base.first device.view.first) (count_sum base.second device.view.second) (count_sum base.declined device.view.declined) (count_sum base.moved device.view.moved)
+    (sum_of device.view.die.erases)
     = λ i. Counted (counts_are i).first (counts_are i).second (counts_are i).declined (counts_are i).moved (erases_are i) in
     here ∙ ap (λ (v : DeviceView). Counted v.first v.second v.declined v.moved (sum_of v.die.erases)) (sym shows.0)
 
@@ -73,20 +76,24 @@ module _ {D C F : Type 0} (state : D → DieState) (meaning : C → Meaning) (de
     numbers_of_fields : HasNumbers d (session_of state meaning device p).holding
     numbers_of_fields = subst (λ (q : Parts D C F). HasNumbers d (session_of state meaning device q).holding) (sym is) numbers
 
-    from_fields : (line : Line) (reply : Reply) (new : SessionValue) → StepsSession d line reply (session_of state meaning device p) new → StepsSession d line reply (session_of state meaning device old) new
+    from_fields : (line : Line) (reply : Reply) (new : SessionValue) → StepsSession d line reply (session_of state meaning device p) new
+        → StepsSession d line reply (session_of state meaning device old) new
     from_fields line reply new steps = subst (λ (q : Parts D C F). StepsSession d line reply (session_of state meaning device q) new) is steps
 
-    pub no_device_off : p.mounted ≡ None → AreSmall (tallies p.base) → (line : Line) → IsDeviceLine line → StepsSession d line SaysOff (session_of state meaning device old) (session_of state meaning device p)
+    pub no_device_off : p.mounted ≡ None → AreSmall (tallies p.base) → (line : Line) → IsDeviceLine line
+        → StepsSession d line SaysOff (session_of state meaning device old) (session_of state meaning device p)
     no_device_off none small line device_is =
         from_fields line SaysOff (session_of state meaning device p)
-        (off_steps d (session_of state meaning device p) line (closed_down d (tallies p.base) p.plan (option_map device p.mounted) (option_map held p.closed) (ap (option_map device) none)) small (device_line line device_is))
+        (off_steps d (session_of state meaning device p) line (closed_down d (tallies p.base) p.plan (option_map device p.mounted) (option_map held p.closed) (ap (option_map device) none)) small
+        (device_line line device_is))
 
     pub stopped_off : (ftl : F) → p.mounted ≡ Some ftl → (device ftl).stopped ≡ true → AreSmall (tallies p.base) → (line : Line) → IsDeviceLine line
         → StepsSession d line SaysOff (session_of state meaning device old) (record { base = tallies p.base; holding = Mounted (device ftl) })
     stopped_off ftl some stopped small line device_is =
         subst (λ (h : Holding). StepsSession d line SaysOff (session_of state meaning device old) (record { base = tallies p.base; holding = h })) (mounted_holding p ftl some)
         (from_fields line SaysOff (session_of state meaning device p)
-        (off_steps d (session_of state meaning device p) line (stopped_down d (session_of state meaning device p) (device ftl) (mounted_holding p ftl some) stopped) small (device_line line device_is)))
+        (off_steps d (session_of state meaning device p) line (stopped_down d (session_of state meaning device p) (device ftl) (mounted_holding p ftl some) stopped) small
+        (device_line line device_is)))
 
     pub device_answers : (ftl new : F) (line : Line) (reply : Reply) → p.mounted ≡ Some ftl → (device ftl).stopped ≡ false → Steps (device ftl).numbers line reply (device ftl) (device new)
         → StepsSession d line reply (session_of state meaning device old) (record { base = tallies p.base; holding = Mounted (device new) })
@@ -104,7 +111,8 @@ module _ {D C F : Type 0} (state : D → DieState) (meaning : C → Meaning) (de
       → (session_of state meaning device p).holding ≡ Closed (numbers_of (state pair.0).shape (meaning pair.1) p.plan) (state pair.0)
   closed_holding p pair none some = λ i. holding_of p.plan (option_map device (none i)) (option_map held (some i))
 
-  pub stat_mounted : (d : Numbers) (p : Parts D C F) (ftl : F) (counts : Counts) (erases : ℕ) (reply : Reply) → p.mounted ≡ Some ftl → tallies counts ≡ added_tallies (tallies p.base) (tallies_of (device ftl).view)
+  pub stat_mounted : (d : Numbers) (p : Parts D C F) (ftl : F) (counts : Counts) (erases : ℕ) (reply : Reply) → p.mounted ≡ Some ftl
+      → tallies counts ≡ added_tallies (tallies p.base) (tallies_of (device ftl).view)
       → erases ≡ sum_of (device ftl).view.die.erases → reply ≡ Counted counts.first counts.second counts.declined counts.moved erases → SaysStat d (session_of state meaning device p) reply
   stat_mounted d p ftl counts erases reply some counts_are erases_are is view shows =
       is
@@ -125,7 +133,8 @@ module _ {D C F : Type 0} (state : D → DieState) (meaning : C → Meaning) (de
     pub counts : IfSome p.mounted (λ ftl. tallies base ≡ added_tallies (tallies p.base) (tallies_of (device ftl).view))
     pub die : IfNone p.mounted ((p.closed ≡ Some pair) × (base ≡ p.base))
 
-  gave_closed : (d : Numbers) (p : Parts D C F) (pair : D × C) (base : Counts) → Gave p pair base → (m : Option F) → p.mounted ≡ m → IsClosed d (session_of state meaning device p) (state pair.0) (tallies base)
+  gave_closed : (d : Numbers) (p : Parts D C F) (pair : D × C) (base : Counts) → Gave p pair base → (m : Option F) → p.mounted ≡ m
+      → IsClosed d (session_of state meaning device p) (state pair.0) (tallies base)
   gave_closed d p pair base gave (Some ftl) some =
       let facts = rw some at gave.device_is in
       let counts = rw some at gave.counts in
@@ -210,10 +219,13 @@ module _ {D C F : Type 0} (state : D → DieState) (meaning : C → Meaning) (de
         → StepsSession d Mount Done (session_of state meaning device old) (record { base = tallies base; holding = Mounted (device new) })
     mount_done new done =
         from_fields old p is d numbers Mount Done (record { base = tallies base; holding = Mounted (device new) })
-        (mounted_steps d (session_of state meaning device p) (state pair.0) (tallies base) (device new) session.small closed_so (subst (λ (n : Numbers). MountDone n (state pair.0) (device new)) numbers_are done))
+        (mounted_steps d (session_of state meaning device p) (state pair.0) (tallies base) (device new) session.small closed_so
+        (subst (λ (n : Numbers). MountDone n (state pair.0) (device new)) numbers_are done))
 
-    pub mount_refused_so : (mounted : Option F) (refused : D × C) (why : MountError) → mounted ≡ None → MountRefused (numbers_of (state pair.0).shape (meaning pair.1) p.plan) (state pair.0) (state refused.0) why
-        → StepsSession d Mount (refusal_reply why) (session_of state meaning device old) (session_of state meaning device (record { mounted = mounted; closed = Some refused; plan = p.plan; base = base }))
+    pub mount_refused_so : (mounted : Option F) (refused : D × C) (why : MountError) → mounted ≡ None
+        → MountRefused (numbers_of (state pair.0).shape (meaning pair.1) p.plan) (state pair.0) (state refused.0) why
+        → StepsSession d Mount (refusal_reply why) (session_of state meaning device old)
+        (session_of state meaning device (record { mounted = mounted; closed = Some refused; plan = p.plan; base = base }))
     mount_refused_so mounted refused why none r =
         let new : SessionValue = session_of state meaning device (record { mounted = mounted; closed = Some refused; plan = p.plan; base = base }) in
         let new_is : record { base = tallies base; holding = Closed (numbers_of (state refused.0).shape (meaning refused.1) p.plan) (state refused.0) } ≡ new

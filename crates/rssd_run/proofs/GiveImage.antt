@@ -1,5 +1,6 @@
 -- An image that is given in pieces: those that were given, and those of the bytes that are left, are the pieces of the whole.
-use Rattle.std.proofs.Common.{◌≡◌, ℕ, zero, suc, ◌+◌, ◌*◌, ◌<◌, ◌≤◌, false, min, List, [], ◌∷◌, ◌++◌, length, take, drop, get_or, refl, sym, ap, ◌∙◌, subst, inl, arith, append-nil, append_assoc, length-append}
+use Rattle.std.proofs.Common.{◌≡◌, ℕ, zero, suc, ◌+◌, ◌*◌, ◌<◌, ◌≤◌, false, min, List, [], ◌∷◌, ◌++◌, length, take, drop, get_or, refl, sym, ap, ◌∙◌, subst, inl, arith, append-nil, append_assoc}
+use Rattle.std.proofs.Common.{length-append}
 use Rattle.std.proofs.lemmas.List.{length-drop, nil_from_length, take-append-drop}
 use Rattle.rssd_io.specs.Event.{Event, bytes_of, moved, failed}
 use Rattle.rssd_io.specs.Pieces.{all_given, Gives, StopsIn}
@@ -55,15 +56,19 @@ pub record IsGiven (old new : List Event) (whole rest : List (List ℕ)) : Type 
 pub given_none : (old : List Event) (whole : List (List ℕ)) → IsGiven old old whole whole
 given_none old whole = record { front = []; given = sym (append-nil old); both = refl }
 
-pub given_more : (old between new : List Event) (whole rest : List (List ℕ)) (piece : List ℕ) → IsGiven old between whole (piece ∷ rest) → new ≡ between ++ moved piece ∷ [] → IsGiven old new whole rest
+pub given_more : (old between new : List Event) (whole rest : List (List ℕ)) (piece : List ℕ) → IsGiven old between whole (piece ∷ rest) → new ≡ between ++ moved piece ∷ []
+    → IsGiven old new whole rest
 given_more old between new whole rest piece is came = record {
   front = is.front ++ piece ∷ [];
-  given = came ∙ (ap (λ (xs : List Event). xs ++ moved piece ∷ []) is.given ∙ (append_assoc old (all_given is.front) (moved piece ∷ []) ∙ ap (λ (xs : List Event). old ++ xs) (sym (given_append is.front (piece ∷ [])))));
+  given =
+      came ∙ (ap (λ (xs : List Event). xs ++ moved piece ∷ []) is.given
+      ∙ (append_assoc old (all_given is.front) (moved piece ∷ []) ∙ ap (λ (xs : List Event). old ++ xs) (sym (given_append is.front (piece ∷ [])))));
   both = append_assoc is.front (piece ∷ []) rest ∙ is.both;
 }
 
 -- a front of the next piece was given, and then the give failed
-pub given_front : (old between new : List Event) (whole rest : List (List ℕ)) (piece : List ℕ) (n : ℕ) → IsGiven old between whole (piece ∷ rest) → new ≡ between ++ moved (take n piece) ∷ failed ∷ [] → StopsIn whole old new
+pub given_front : (old between new : List Event) (whole rest : List (List ℕ)) (piece : List ℕ) (n : ℕ) → IsGiven old between whole (piece ∷ rest)
+    → new ≡ between ++ moved (take n piece) ∷ failed ∷ [] → StopsIn whole old new
 given_front old between new whole rest piece n is came = inl (record {
   before = length is.front;
   inside = omega (arith, ap (length {A = List ℕ}) is.both, length-append is.front (piece ∷ rest));
@@ -88,12 +93,14 @@ next_page size rest piece behind some parts fits any =
     let fits_now : length piece ≡ min size (length (piece ++ behind)) = fits ∙ ap (λ (xs : List ℕ). min size (length xs)) parts in
     ap (pages_in size) parts ∙ pages_more size piece behind some (omega (arith, some, fits, any)) fits_now
 
-pub given_page : (old between new : List Event) (whole : List (List ℕ)) (size : ℕ) (rest piece behind : List ℕ) → IsGiven old between whole (pages_in size rest) → 0 < size → rest ≡ piece ++ behind → length piece ≡ min size (length rest) → 0 < length rest
+pub given_page : (old between new : List Event) (whole : List (List ℕ)) (size : ℕ) (rest piece behind : List ℕ) → IsGiven old between whole (pages_in size rest) → 0 < size → rest ≡ piece ++ behind
+    → length piece ≡ min size (length rest) → 0 < length rest
     → new ≡ between ++ moved piece ∷ [] → IsGiven old new whole (pages_in size behind)
 given_page old between new whole size rest piece behind is some parts fits any came =
     given_more old between new whole (pages_in size behind) piece (subst (IsGiven old between whole) (next_page size rest piece behind some parts fits any) is) came
 
-pub given_part : (old between new : List Event) (whole : List (List ℕ)) (size : ℕ) (rest piece behind : List ℕ) (n : ℕ) → IsGiven old between whole (pages_in size rest) → 0 < size → rest ≡ piece ++ behind → length piece ≡ min size (length rest) → 0 < length rest
+pub given_part : (old between new : List Event) (whole : List (List ℕ)) (size : ℕ) (rest piece behind : List ℕ) (n : ℕ) → IsGiven old between whole (pages_in size rest) → 0 < size
+    → rest ≡ piece ++ behind → length piece ≡ min size (length rest) → 0 < length rest
     → new ≡ between ++ moved (take n piece) ∷ failed ∷ [] → StopsIn whole old new
 given_part old between new whole size rest piece behind n is some parts fits any came =
     given_front old between new whole (pages_in size behind) piece n (subst (IsGiven old between whole) (next_page size rest piece behind some parts fits any) is) came
@@ -104,7 +111,8 @@ given_head old new head bytes pages is came =
     given_more old old new (head ∷ pages) pages head (given_none old (head ∷ pages)) (subst (λ (xs : List ℕ). new ≡ old ++ moved xs ∷ []) (sym (is ∙ append-nil bytes)) came)
 
 -- a front of the head was given, and then the give failed
-pub given_head_part : (old new : List Event) (head : List ℕ) (bytes : List ℕ) (pages : List (List ℕ)) (n : ℕ) → head ≡ bytes ++ [] → new ≡ old ++ moved (take n bytes) ∷ failed ∷ [] → StopsIn (head ∷ pages) old new
+pub given_head_part : (old new : List Event) (head : List ℕ) (bytes : List ℕ) (pages : List (List ℕ)) (n : ℕ) → head ≡ bytes ++ [] → new ≡ old ++ moved (take n bytes) ∷ failed ∷ []
+    → StopsIn (head ∷ pages) old new
 given_head_part old new head bytes pages n is came =
     given_front old old new (head ∷ pages) pages head n (given_none old (head ∷ pages)) (subst (λ (xs : List ℕ). new ≡ old ++ moved (take n xs) ∷ failed ∷ []) (sym (is ∙ append-nil bytes)) came)
 
@@ -122,7 +130,8 @@ unfolding cut
 cut_bytes size zero [] some fits = refl
 cut_bytes size (suc most) [] some fits = refl
 cut_bytes (suc size) (suc most) (byte ∷ bytes) some fits =
-    ap (λ (xs : List ℕ). take (suc size) (byte ∷ bytes) ++ xs) (cut_bytes (suc size) most (drop size bytes) some (omega (arith, fits, length-drop size bytes))) ∙ take-append-drop (suc size) (byte ∷ bytes)
+    ap (λ (xs : List ℕ). take (suc size) (byte ∷ bytes) ++ xs) (cut_bytes (suc size) most (drop size bytes) some (omega (arith, fits, length-drop size bytes)))
+    ∙ take-append-drop (suc size) (byte ∷ bytes)
 cut_bytes size zero (byte ∷ bytes) some fits = absurd (omega (arith, fits))
 cut_bytes zero most bytes some fits = absurd (omega (arith, some))
 

@@ -34,7 +34,8 @@ written_or rows new Long next P row others = inr (others.long refl)
 written_or rows new Spent next P row others = inr (others.spent refl)
 written_or rows new reply next P row others = absurd row
 
-pub write_or : (size : ℕ) (array : ArrayState) (sector : ℕ) (bytes : List ℕ) (reply : Reply) (next : ArrayState) (P : Type 0) → IsOn array → Row size array (Write sector bytes) reply next → RepliesWrite reply P → IsWritten reply ⊎ P
+pub write_or : (size : ℕ) (array : ArrayState) (sector : ℕ) (bytes : List ℕ) (reply : Reply) (next : ArrayState) (P : Type 0) → IsOn array → Row size array (Write sector bytes) reply next
+    → RepliesWrite reply P → IsWritten reply ⊎ P
 write_or size (On rows) sector bytes reply next P on row others = written_or rows _ reply next P row others
 write_or size (Off old new) sector bytes reply next P on row others = absurd on
 
@@ -92,7 +93,8 @@ charged_from d before (e ∷ events) after run (suc lines) =
     subst (λ (view : View). Charged view.device.die (view_at e.after events lines).device.die) run.0
     (charged_more e.before.device.die e.after.device.die (view_at e.after events lines).device.die (step_charged d e run.1) (charged_from d e.after events after run.2 lines))
 
-charged_between : (d : Numbers) (before : View) (events : List Event) (after : View) → IsRun d before events after → (i j : ℕ) → i ≤ j → Charged (view_at before events i).device.die (view_at before events j).device.die
+charged_between : (d : Numbers) (before : View) (events : List Event) (after : View) → IsRun d before events after → (i j : ℕ) → i ≤ j
+    → Charged (view_at before events i).device.die (view_at before events j).device.die
 unfolding IsRun
 charged_between d before events after run zero j later = charged_from d before events after run j
 charged_between d before [] after run (suc i) zero later = absurd (omega (arith, later))

@@ -61,6 +61,7 @@ module _ (image script : Input) (out : Output) (lines : List Line) (head : Image
     unfolding all_run
     run_done image_out left has handed_on written = record { given = given; all = all_run; handed_on = handed_on; left = left; last_cells = has; written = written }
 
-    pub image_cut_off : (image_out : Output) (left : List ℕ) → HasCells left last → out.after ≡ given ++ flushed ∷ [] → TookPart image_out (image_pieces head left) → IsImageCutOff image script out image_out
+    pub image_cut_off : (image_out : Output) (left : List ℕ) → HasCells left last → out.after ≡ given ++ flushed ∷ [] → TookPart image_out (image_pieces head left)
+        → IsImageCutOff image script out image_out
     unfolding all_run
     image_cut_off image_out left has handed_on written = record { given = given; all = all_run; handed_on = handed_on; left = left; last_cells = has; written = written }

@@ -46,7 +46,10 @@ cut_step d base old n torn some running power book =
         tallies = record { first = omega arith; second = omega arith; declined = omega arith };
       };
       true_book = λ h. book running;
-      moves = (record { book = same_book d (plus base old.view) (plus base new.view) refl refl (omega arith) (λ c. tt) refl refl; seq = same_seq d (plus base old.view) (plus base new.view) refl refl }, tt);
+      moves = (
+        record { book = same_book d (plus base old.view) (plus base new.view) refl refl (omega arith) (λ c. tt) refl refl; seq = same_seq d (plus base old.view) (plus base new.view) refl refl },
+        tt,
+      );
       armed = record { arms = refl; lowers = λ not. absurd (not tt); fault = λ h. cc };
       power = λ on tells. still_powered (with_cut n (form_of_word torn)) (λ failures. refl) old.view.die.failures power;
       leaves = refl;
@@ -76,14 +79,18 @@ fail_read_step d base old n some running power book =
         tallies = record { first = omega arith; second = omega arith; declined = omega arith };
       };
       true_book = λ h. book running;
-      moves = (record { book = same_book d (plus base old.view) (plus base new.view) refl refl (omega arith) (λ c. tt) refl refl; seq = same_seq d (plus base old.view) (plus base new.view) refl refl }, tt);
+      moves = (
+        record { book = same_book d (plus base old.view) (plus base new.view) refl refl (omega arith) (λ c. tt) refl refl; seq = same_seq d (plus base old.view) (plus base new.view) refl refl },
+        tt,
+      );
       armed = record { arms = refl; lowers = λ not. absurd (not tt); fault = λ h. cc };
       power = λ on tells. still_powered (with_read_failure n) (λ failures. refl) old.view.die.failures power;
       leaves = refl;
     }
 
 pub read_step : (d : Numbers) (base : Tallies) (old : DeviceValue) (die : DieState) (sector : ℕ) (bytes : List ℕ) → sector < d.geometry.sectors → old.stopped ≡ false
-    → TellsPower old.view.die → TrueWhileRunning d (with_die (λ before. die) old) → die.shape ≡ old.view.die.shape → SameCells old.view.die die → Passed 0 (sector_reads d old.view sector) old.view.die die
+    → TellsPower old.view.die → TrueWhileRunning d (with_die (λ before. die) old) → die.shape ≡ old.view.die.shape → SameCells old.view.die die
+    → Passed 0 (sector_reads d old.view sector) old.view.die die
     → bytes ≡ without_zeros (slice_index_or (rows_of d old.view) sector [])
     → IsStep d (event_of (Read sector) (Bytes bytes) (on d base old) (on d base (with_die (λ before. die) old)))
 read_step d base old die sector bytes in_range running power book shape same passed is_row =
@@ -110,14 +117,21 @@ read_step d base old die sector bytes in_range running power book shape same pas
         tallies = record { first = omega arith; second = omega arith; declined = omega arith };
       };
       true_book = λ h. book running;
-      moves = (record { book = same_book d (plus base old.view) (plus base new.view) refl refl (omega arith) (λ c. tt) refl refl; seq = same_seq d (plus base old.view) (plus base new.view) refl same.cells }, tt);
+      moves = (
+        record {
+          book = same_book d (plus base old.view) (plus base new.view) refl refl (omega arith) (λ c. tt) refl refl;
+          seq = same_seq d (plus base old.view) (plus base new.view) refl same.cells;
+        },
+        tt,
+      );
       armed = record { arms = tt; lowers = λ a f. lowers; fault = λ h. cc };
       power = λ on tells. went_power old.view.die die power went;
       leaves = same.erases;
     }
 
 pub read_fault_step : (d : Numbers) (base : Tallies) (old : DeviceValue) (die : DieState) (sector : ℕ) → sector < d.geometry.sectors → old.stopped ≡ false
-    → TellsPower old.view.die → TrueWhileRunning d (with_die (λ before. die) old) → die.shape ≡ old.view.die.shape → SameCells old.view.die die → ReadFailed 0 (sector_reads d old.view sector) old.view.die die
+    → TellsPower old.view.die → TrueWhileRunning d (with_die (λ before. die) old) → die.shape ≡ old.view.die.shape → SameCells old.view.die die
+    → ReadFailed 0 (sector_reads d old.view sector) old.view.die die
     → IsStep d (event_of (Read sector) Fault (on d base old) (on d base (with_die (λ before. die) old)))
 read_fault_step d base old die sector in_range running power book shape same failed =
     let new : DeviceValue = with_die (λ before. die) old in

@@ -115,7 +115,8 @@ read_came_powered {changes} {reads} die new came =
       power = came.power;
     }
 
-pub mount_fault_step : (d : Numbers) (before : View) (die : DieState) → StandsFor d before → before.device.first < 2 ^ 64 → before.device.second < 2 ^ 64 → before.device.declined < 2 ^ 64 → before.device.moved < 2 ^ 64
+pub mount_fault_step : (d : Numbers) (before : View) (die : DieState) → StandsFor d before → before.device.first < 2 ^ 64 → before.device.second < 2 ^ 64 → before.device.declined < 2 ^ 64
+    → before.device.moved < 2 ^ 64
     → Tells before.device.die → ReadFailed 0 (page_count d.geometry) (told with_power before.device.die) die → die.shape ≡ before.device.die.shape → SameCells before.device.die die
     → IsStep d (event_of Mount Fault before (refused before die))
 mount_fault_step d before die stands small_first small_second small_declined small tells failed shape same =
@@ -168,7 +169,8 @@ mount_fault_step d before die stands small_first small_second small_declined sma
       leaves = same.erases;
     }
 
-pub no_spare_step : (d : Numbers) (before : View) (die : DieState) → StandsFor d before → before.device.first < 2 ^ 64 → before.device.second < 2 ^ 64 → before.device.declined < 2 ^ 64 → before.device.moved < 2 ^ 64
+pub no_spare_step : (d : Numbers) (before : View) (die : DieState) → StandsFor d before → before.device.first < 2 ^ 64 → before.device.second < 2 ^ 64 → before.device.declined < 2 ^ 64
+    → before.device.moved < 2 ^ 64
     → Tells before.device.die → Passed 0 (page_count d.geometry) (told with_power before.device.die) die → die.shape ≡ before.device.die.shape → SameCells before.device.die die
     → EveryBlockLive d.geometry before.device.die → IsStep d (event_of Mount NoSpare before (refused before die))
 no_spare_step d before die stands small_first small_second small_declined small tells passed shape same full =

@@ -1,5 +1,6 @@
 -- Two blank dies as one are a blank die with power and nothing armed, so that no line of a play fails on them.
-use Rattle.std.proofs.Common.{◌≡◌, ℕ, zero, suc, ◌*◌, ◌/◌, ◌%◌, ◌<◌, ◌==◌, ◌&&◌, true, List, [], ◌∷◌, All, length, map, replicate, slice_index, get_or, Option, None, Some, refl, sym, ap, ap₂, ◌∙◌, arith, subst, if◌then◌else◌}
+use Rattle.std.proofs.Common.{◌≡◌, ℕ, zero, suc, ◌*◌, ◌/◌, ◌%◌, ◌<◌, ◌==◌, ◌&&◌, true, List, [], ◌∷◌, All, length, map, replicate, slice_index, get_or, Option, None, Some, refl, sym, ap, ap₂}
+use Rattle.std.proofs.Common.{◌∙◌, arith, subst, if◌then◌else◌}
 use Rattle.std.specs.Prelude.{IsSomeAnd}
 use Rattle.std.specs.List.{AllByRecursion, range_with_len}
 use Rattle.std.proofs.lemmas.List.Elements.{All-from_recursion}
@@ -63,7 +64,8 @@ module _ (head : ImageHead) (die : DieState) (even : head.blocks % 2 ≡ 0) (pai
   pair_shape_is : pair_shape (half_shape head) ≡ shape_of head
   pair_shape_is = let twice : 2 * (head.blocks / 2) ≡ head.blocks = omega (arith, even) in λ i. record (shape_of head) { blocks = twice i }
 
-  blank_at : (place : Half) → number_at place < page_count (half_shape head) → at_place (page_of (mem_state pair.first)) (page_of (mem_state pair.second)) place ≡ blank_page (page_bytes (shape_of head))
+  blank_at : (place : Half) → number_at place < page_count (half_shape head)
+      → at_place (page_of (mem_state pair.first)) (page_of (mem_state pair.second)) place ≡ blank_page (page_bytes (shape_of head))
   blank_at (First n) inside = pair.first_blank.blank n inside
   blank_at (Second n) inside = pair.second_blank.blank n inside
 
@@ -128,7 +130,8 @@ never_stops d before (e ∷ events) after quiet on play =
           (plain_stays_on d.geometry.sector_bytes e.before.array e.line e.reply e.after.array (plain e.line step.played) on_here step.step.row (step.no_fault quiet_here)) play.2,
     )
 
-pub pair_each : (head : ImageHead) (die : DieState) → IsQuiet die → (view : View) → IsPlayStart head die view → (events : List Event) (after : View) → IsPlay (numbers_named head) view events after → All NeverStops events
+pub pair_each : (head : ImageHead) (die : DieState) → IsQuiet die → (view : View) → IsPlayStart head die view → (events : List Event) (after : View) → IsPlay (numbers_named head) view events after
+    → All NeverStops events
 pair_each head die quiet view start events after play =
     All-from_recursion NeverStops events (never_stops (numbers_named head) view events after
     (subst (λ (v : DeviceView). IsQuiet v.die) (sym start.same) (quiet_stays quiet start.mounts.calls)) (subst IsOn (sym start.zeros) tt) play)

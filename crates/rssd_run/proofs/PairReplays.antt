@@ -42,7 +42,8 @@ no_spare_row size array (FailRead n) next played row = absurd played
 no_spare_row size array Mount next played row = absurd played
 no_spare_row size array Stat next played row = absurd played
 
-no_counts_row : (size : ℕ) (array : ArrayState) (line : Line) (first second declined moved erases : ℕ) (next : ArrayState) → IsPlayed line → Row size array line (Counts first second declined moved erases) next → ⊥
+no_counts_row : (size : ℕ) (array : ArrayState) (line : Line) (first second declined moved erases : ℕ) (next : ArrayState) → IsPlayed line
+    → Row size array line (Counts first second declined moved erases) next → ⊥
 no_counts_row size (On rows) (Write sector bytes) first second declined moved erases next played row = row
 no_counts_row size (On rows) (Read sector) first second declined moved erases next played row = row
 no_counts_row size (On rows) (Trim sector) first second declined moved erases next played row = row
@@ -191,7 +192,15 @@ module _ (head : ImageHead) (even : head.blocks % 2 ≡ 0) where
       let start = begins.2 in
       record {
         die = die;
-        blank = record { same_shape = blank.same_shape; blank = blank.blank; erases = blank.erases; read_faults = blank.read_faults; change_faults = blank.change_faults; quiet = pair_quiet head die even begins.1 };
+        blank =
+            record {
+              same_shape = blank.same_shape;
+              blank = blank.blank;
+              erases = blank.erases;
+              read_faults = blank.read_faults;
+              change_faults = blank.change_faults;
+              quiet = pair_quiet head die even begins.1;
+            };
         device = start.device;
         mounts = start.mounts;
         same = start.same;
@@ -210,10 +219,17 @@ module _ (head : ImageHead) (even : head.blocks % 2 ≡ 0) where
     before = p.before;
     start = pair_start p.before p.start;
     after = p.after;
-    run = record { events = p.play.events; run = play_runs (numbers_named head) p.before p.play.events p.after (start_quiet p.before p.start) p.play.play; of_lines = p.play.of_lines; given = p.play.given };
+    run =
+        record {
+          events = p.play.events;
+          run = play_runs (numbers_named head) p.before p.play.events p.after (start_quiet p.before p.start) p.play.play;
+          of_lines = p.play.of_lines;
+          given = p.play.given;
+        };
   }
 
-  pub pair_front_replays : (lines : List Line) (log log_after : List Act) → PlaysFrontFrom (IsPairStart head) NeverStops (numbers_named head) lines log log_after → ReplaysFront head lines log log_after
+  pub pair_front_replays : (lines : List Line) (log log_after : List Act) → PlaysFrontFrom (IsPairStart head) NeverStops (numbers_named head) lines log log_after
+      → ReplaysFront head lines log log_after
   pair_front_replays lines log log_after p = record {
     before = p.before;
     start = pair_start p.before p.start;

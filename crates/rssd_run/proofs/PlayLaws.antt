@@ -52,7 +52,8 @@ charged_from d before (e ∷ events) after play (suc lines) =
     subst (λ (view : View). Charged view.device.die (view_at e.after events lines).device.die) play.0
     (charged_more e.before.device.die e.after.device.die (view_at e.after events lines).device.die one (charged_from d e.after events after play.2 lines))
 
-charged_between : (d : Numbers) (before : View) (events : List Event) (after : View) → IsPlay d before events after → (i j : ℕ) → i ≤ j → Charged (view_at before events i).device.die (view_at before events j).device.die
+charged_between : (d : Numbers) (before : View) (events : List Event) (after : View) → IsPlay d before events after → (i j : ℕ) → i ≤ j
+    → Charged (view_at before events i).device.die (view_at before events j).device.die
 unfolding IsPlay
 charged_between d before events after play zero j later = charged_from d before events after play j
 charged_between d before [] after play (suc i) zero later = absurd (omega (arith, later))

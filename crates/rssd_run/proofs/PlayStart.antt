@@ -67,7 +67,8 @@ module _ (head : ImageHead) (die : DieState) (given : IsGivenBlank head die) whe
     given_fits = subst (λ (s : _). Fits s meaning (plan_of head)) (sym given.blank.same_shape)
         (subst (λ (m : Meaning). Fits (shape_of head) m (plan_of head)) (sym meaning_is) (head_fits head given.within))
 
-    refused_so : (new : DieState) (why : MountError) → (MountFails (numbers_named head) die new → ⊥) → (why ≡ BadShape → ¬ Fits die.shape meaning (plan_of head)) → Refuses (numbers_named head) die new why
+    refused_so : (new : DieState) (why : MountError) → (MountFails (numbers_named head) die new → ⊥) → (why ≡ BadShape → ¬ Fits die.shape meaning (plan_of head))
+        → Refuses (numbers_named head) die new why
         → why ≡ OutOfMemory
     refused_so new OutOfMemory never shape refuses = refl
     refused_so new BadShape never shape refuses = absurd (shape refl given_fits)

@@ -31,10 +31,12 @@ use Rattle.rssd_run.proofs.WriteSteps.{event_of, sector_in, bytes_in, must_not, 
 
 -- ---- a step whose die tells its power is a played step too
 
-loose_book : (d : Numbers) (old new : DeviceView) {May : List Change → Type 0} {Rises : List Change → ℕ → Type 0} {AtCut : ℕ → Type 0} → MovesBook d May Rises AtCut old new → MovesBook d May Rises (λ rise. Unit {0}) old new
+loose_book : (d : Numbers) (old new : DeviceView) {May : List Change → Type 0} {Rises : List Change → ℕ → Type 0} {AtCut : ℕ → Type 0} → MovesBook d May Rises AtCut old new
+    → MovesBook d May Rises (λ rise. Unit {0}) old new
 loose_book d old new book = record { changes = book.changes; leads = book.leads; may = book.may; rise = book.rise; rises = book.rises; tally = book.tally; at_cut = tt }
 
-pub played_book : (d : Numbers) (before after : View) (line : Line) (reply : Reply) → IsPlayed line → BookMoves d (event_of line reply before after) line reply → PlayedBook d (event_of line reply before after)
+pub played_book : (d : Numbers) (before after : View) (line : Line) (reply : Reply) → IsPlayed line → BookMoves d (event_of line reply before after) line reply
+    → PlayedBook d (event_of line reply before after)
 played_book d before after (Write sector bytes) reply is m = record { book = loose_book d before.device after.device m.0.book; seq = m.0.seq; records = m.1 }
 played_book d before after (Read sector) reply is m = record { book = loose_book d before.device after.device m.0.book; seq = m.0.seq; records = m.1 }
 played_book d before after (Trim sector) reply is m = record { book = loose_book d before.device after.device m.0.book; seq = m.0.seq; records = m.1 }
@@ -173,7 +175,8 @@ played_declined d base old new sector bytes a =
       leaves = gets_plus base old.view new.view a.wrote.draws;
     }
 
-pub played_write_read_fault : (d : Numbers) (base : Tallies) (old new : DeviceValue) (sector : ℕ) (bytes : List ℕ) → WriteFailed d sector bytes old new → ReadFault d (WithinWrite d old.view (filled_up d.geometry.sector_bytes bytes)) old new
+pub played_write_read_fault : (d : Numbers) (base : Tallies) (old new : DeviceValue) (sector : ℕ) (bytes : List ℕ) → WriteFailed d sector bytes old new
+    → ReadFault d (WithinWrite d old.view (filled_up d.geometry.sector_bytes bytes)) old new
     → IsPlayedStep d (event_of (Write sector bytes) Fault (on d base old) (on d base new))
 played_write_read_fault d base old new sector bytes a f =
     let e : Event = event_of (Write sector bytes) Fault (on d base old) (on d base new) in
@@ -190,11 +193,17 @@ played_write_read_fault d base old new sector bytes a f =
       stays = must_not;
       tallies = record { first = omega (arith, a.fault.counts.first); second = omega (arith, a.fault.counts.second); declined = omega (arith, a.fault.counts.declined) };
       true_book = λ h. a.holds.true_book f.running;
-      moves = record { book = plus_book d base old.view new.view (λ rise at. tt) (write_book_so d old new sector (filled_up d.geometry.sector_bytes bytes) false f.running a.fault); seq = plus_seq d base old.view new.view a.fault.seq; records = tt };
+      moves =
+          record {
+            book = plus_book d base old.view new.view (λ rise at. tt) (write_book_so d old new sector (filled_up d.geometry.sector_bytes bytes) false f.running a.fault);
+            seq = plus_seq d base old.view new.view a.fault.seq;
+            records = tt;
+          };
       leaves = erased_plus d base old.view new.view (filled_up d.geometry.sector_bytes bytes) a.fault.erased;
     }
 
-pub played_write_change_fault : (d : Numbers) (base : Tallies) (old new : DeviceValue) (sector : ℕ) (bytes : List ℕ) → WriteFailed d sector bytes old new → IsSound d.geometry old.view.die.cells → ChangeFault d (WithinWrite d old.view (filled_up d.geometry.sector_bytes bytes)) (written d.geometry.sector_bytes (rows_of d old.view) sector bytes) old new
+pub played_write_change_fault : (d : Numbers) (base : Tallies) (old new : DeviceValue) (sector : ℕ) (bytes : List ℕ) → WriteFailed d sector bytes old new → IsSound d.geometry old.view.die.cells
+    → ChangeFault d (WithinWrite d old.view (filled_up d.geometry.sector_bytes bytes)) (written d.geometry.sector_bytes (rows_of d old.view) sector bytes) old new
     → IsPlayedStep d (event_of (Write sector bytes) Fault (on d base old) (off base new (Off (rows_of d old.view) (written d.geometry.sector_bytes (rows_of d old.view) sector bytes))))
 played_write_change_fault d base old new sector bytes a sound f =
     let e : Event = event_of (Write sector bytes) Fault (on d base old) (off base new (Off (rows_of d old.view) (written d.geometry.sector_bytes (rows_of d old.view) sector bytes))) in
@@ -211,7 +220,12 @@ played_write_change_fault d base old new sector bytes a sound f =
       stays = must_not;
       tallies = record { first = omega (arith, a.fault.counts.first); second = omega (arith, a.fault.counts.second); declined = omega (arith, a.fault.counts.declined) };
       true_book = λ on. absurd on;
-      moves = record { book = plus_book d base old.view new.view (λ rise at. tt) (write_book_so d old new sector (filled_up d.geometry.sector_bytes bytes) true f.stopped a.fault); seq = plus_seq d base old.view new.view a.fault.seq; records = tt };
+      moves =
+          record {
+            book = plus_book d base old.view new.view (λ rise at. tt) (write_book_so d old new sector (filled_up d.geometry.sector_bytes bytes) true f.stopped a.fault);
+            seq = plus_seq d base old.view new.view a.fault.seq;
+            records = tt;
+          };
       leaves = erased_plus d base old.view new.view (filled_up d.geometry.sector_bytes bytes) a.fault.erased;
     }
 
@@ -255,11 +269,17 @@ played_trim_read_fault d base old new sector a f =
       stays = must_not;
       tallies = record { first = omega (arith, a.fault.counts.first); second = omega (arith, a.fault.counts.second); declined = omega (arith, a.fault.counts.declined) };
       true_book = λ h. a.holds.true_book f.running;
-      moves = record { book = plus_book d base old.view new.view (λ rise at. tt) (trim_book_so d old new sector false f.running a.fault); seq = plus_seq d base old.view new.view a.fault.seq; records = tt };
+      moves =
+          record {
+            book = plus_book d base old.view new.view (λ rise at. tt) (trim_book_so d old new sector false f.running a.fault);
+            seq = plus_seq d base old.view new.view a.fault.seq;
+            records = tt;
+          };
       leaves = a.fault.erased;
     }
 
-pub played_trim_change_fault : (d : Numbers) (base : Tallies) (old new : DeviceValue) (sector : ℕ) → TrimFailed d sector old new → IsSound d.geometry old.view.die.cells → ChangeFault d (WithinTrim d old.view sector) (trimmed d.geometry.sector_bytes (rows_of d old.view) sector) old new
+pub played_trim_change_fault : (d : Numbers) (base : Tallies) (old new : DeviceValue) (sector : ℕ) → TrimFailed d sector old new → IsSound d.geometry old.view.die.cells
+    → ChangeFault d (WithinTrim d old.view sector) (trimmed d.geometry.sector_bytes (rows_of d old.view) sector) old new
     → IsPlayedStep d (event_of (Trim sector) Fault (on d base old) (off base new (Off (rows_of d old.view) (trimmed d.geometry.sector_bytes (rows_of d old.view) sector))))
 played_trim_change_fault d base old new sector a sound f =
     let e : Event = event_of (Trim sector) Fault (on d base old) (off base new (Off (rows_of d old.view) (trimmed d.geometry.sector_bytes (rows_of d old.view) sector))) in
@@ -276,7 +296,12 @@ played_trim_change_fault d base old new sector a sound f =
       stays = must_not;
       tallies = record { first = omega (arith, a.fault.counts.first); second = omega (arith, a.fault.counts.second); declined = omega (arith, a.fault.counts.declined) };
       true_book = λ on. absurd on;
-      moves = record { book = plus_book d base old.view new.view (λ rise at. tt) (trim_book_so d old new sector true f.stopped a.fault); seq = plus_seq d base old.view new.view a.fault.seq; records = tt };
+      moves =
+          record {
+            book = plus_book d base old.view new.view (λ rise at. tt) (trim_book_so d old new sector true f.stopped a.fault);
+            seq = plus_seq d base old.view new.view a.fault.seq;
+            records = tt;
+          };
       leaves = a.fault.erased;
     }
 
@@ -324,7 +349,8 @@ played_idle_read_fault d base old new n holds w f =
       leaves = w.erases;
     }
 
-pub played_idle_change_fault : (d : Numbers) (base : Tallies) (old new : DeviceValue) (n : ℕ) → Holds d old new → IdleFault d n old new → IsSound d.geometry old.view.die.cells → ChangeFault d (WithinIdle d n old.view new.view) (rows_of d old.view) old new
+pub played_idle_change_fault : (d : Numbers) (base : Tallies) (old new : DeviceValue) (n : ℕ) → Holds d old new → IdleFault d n old new → IsSound d.geometry old.view.die.cells
+    → ChangeFault d (WithinIdle d n old.view new.view) (rows_of d old.view) old new
     → IsPlayedStep d (event_of (Idle n) Fault (on d base old) (off base new (Off (rows_of d old.view) (rows_of d old.view))))
 played_idle_change_fault d base old new n holds w sound f =
     let e : Event = event_of (Idle n) Fault (on d base old) (off base new (Off (rows_of d old.view) (rows_of d old.view))) in
@@ -368,7 +394,9 @@ played_read d base old new sector bytes a runs =
       tallies = record { first = omega (arith, still (λ v. v.first)); second = omega (arith, still (λ v. v.second)); declined = omega (arith, still (λ v. v.declined)) };
       true_book = λ h. a.holds.true_book runs;
       moves = record {
-        book = same_book d (plus base old.view) (plus base new.view) (ap (λ (device : DeviceValue). device.view.book) a.only_die.rest) (ap (λ n. count_sum base.moved n) (still (λ v. v.moved))) (omega arith) tt refl refl;
+        book =
+            same_book d (plus base old.view) (plus base new.view) (ap (λ (device : DeviceValue). device.view.book) a.only_die.rest) (ap (λ n. count_sum base.moved n) (still (λ v. v.moved)))
+            (omega arith) tt refl refl;
         seq = same_seq d (plus base old.view) (plus base new.view) (still (λ v. v.seq)) same.cells;
         records = tt;
       };
@@ -396,7 +424,9 @@ played_read_fault d base old new sector a runs =
       tallies = record { first = omega (arith, still (λ v. v.first)); second = omega (arith, still (λ v. v.second)); declined = omega (arith, still (λ v. v.declined)) };
       true_book = λ h. a.holds.true_book runs;
       moves = record {
-        book = same_book d (plus base old.view) (plus base new.view) (ap (λ (device : DeviceValue). device.view.book) a.only_die.rest) (ap (λ n. count_sum base.moved n) (still (λ v. v.moved))) (omega arith) tt refl refl;
+        book =
+            same_book d (plus base old.view) (plus base new.view) (ap (λ (device : DeviceValue). device.view.book) a.only_die.rest) (ap (λ n. count_sum base.moved n) (still (λ v. v.moved)))
+            (omega arith) tt refl refl;
         seq = same_seq d (plus base old.view) (plus base new.view) (still (λ v. v.seq)) same.cells;
         records = tt;
       };

@@ -44,7 +44,8 @@ length_lines (e ∷ events) = ap (λ n. suc n) (length_lines events)
 pub play_of_none : (P : Event → Type 0) (d : Numbers) (view : View) (log : List Act) → PlayOf P d view [] view log log
 play_of_none P d view log = record { events = []; play = play_none d view; each = All-nil P; of_lines = refl; given = sym (append-nil log) }
 
-module _ (P : Event → Type 0) (d : Numbers) (before : View) (lines : List Line) (e : Event) (log between log_after : List Act) (r : PlayOf P d before lines e.before log between) (step : IsPlaying d e) (holds : P e) where
+module _ (P : Event → Type 0) (d : Numbers) (before : View) (lines : List Line) (e : Event) (log between log_after : List Act) (r : PlayOf P d before lines e.before log between)
+    (step : IsPlaying d e) (holds : P e) where
   -- one line more, whose text was given
   pub play_of_more : log_after ≡ between ++ moved (reply_line e.reply) ∷ [] → PlayOf P d before (lines ++ e.line ∷ []) e.after log log_after
   play_of_more given = record {
@@ -93,7 +94,8 @@ array_on true rows array runs is = cc
 die_shown : (d : Numbers) (base : Tallies) (device : DeviceValue) (view : View) → ShowsHolding d base (Mounted device) view → view.device.die ≡ device.view.die
 die_shown d base device view shows = ap (λ (v : DeviceView). v.die) shows.0
 
-pub played_step : (d : Numbers) (base : Tallies) (line : Line) (reply : Reply) (old new : DeviceValue) (before : View) → Stands d base old before → new.numbers ≡ old.numbers → CalledSo line reply old new
+pub played_step : (d : Numbers) (base : Tallies) (line : Line) (reply : Reply) (old new : DeviceValue) (before : View) → Stands d base old before → new.numbers ≡ old.numbers
+    → CalledSo line reply old new
     → (after : View) × Stands d base new after × IsPlaying d (record { line = line; reply = reply; before = before; after = after }) × (after.device.die ≡ new.view.die)
 played_step d base line reply old new before stands same call =
     let plays : Plays d line reply old new = subst (λ (n : Numbers). Plays n line reply old new) stands.numbers call.plays in
@@ -123,10 +125,12 @@ played_step d base line reply old new before stands same call =
 
 -- ---- what is said of each step
 
-play_with : (P Q : Event → Type 0) (d : Numbers) (before after : View) (lines : List Line) (log log_after : List Act) (r : PlayOf P d before lines after log log_after) → All Q r.events → PlayOf Q d before lines after log log_after
+play_with : (P Q : Event → Type 0) (d : Numbers) (before after : View) (lines : List Line) (log log_after : List Act) (r : PlayOf P d before lines after log log_after) → All Q r.events
+    → PlayOf Q d before lines after log log_after
 play_with P Q d before after lines log log_after r each = record { events = r.events; play = r.play; each = each; of_lines = r.of_lines; given = r.given }
 
-front_with : (P Q : Event → Type 0) (d : Numbers) (before after : View) (lines : List Line) (log log_after : List Act) (r : PlayCutOff P d before lines after log log_after) → All Q (r.events ++ r.last ∷ [])
+front_with : (P Q : Event → Type 0) (d : Numbers) (before after : View) (lines : List Line) (log log_after : List Act) (r : PlayCutOff P d before lines after log log_after)
+    → All Q (r.events ++ r.last ∷ [])
     → PlayCutOff Q d before lines after log log_after
 front_with P Q d before after lines log log_after r each = record { events = r.events; last = r.last; play = r.play; each = each; of_lines = r.of_lines; front = r.front; given = r.given }
 
@@ -135,18 +139,37 @@ pub ends_more : (S T : View → Type 0) (P Q : Event → Type 0) (d : Numbers) (
     → ((view : View) → S view → (events : List Event) (after : View) → IsPlay d view events after → All P events → All Q events)
     → EndsPlay S P d lines out status → EndsPlay T Q d lines out status
 ends_more S T P Q d lines out Done starts each ends =
-    let p = ends.1 in
-    (ends.0, record { before = p.before; start = starts p.before p.start; after = p.after; play = play_with P Q d p.before p.after lines out.before ends.0 p.play (each p.before p.start p.play.events p.after p.play.play p.play.each) }, ends.2)
+    let p = ends.1 in (
+      ends.0,
+      record {
+        before = p.before;
+        start = starts p.before p.start;
+        after = p.after;
+        play = play_with P Q d p.before p.after lines out.before ends.0 p.play (each p.before p.start p.play.events p.after p.play.play p.play.each);
+      },
+      ends.2,
+    )
 ends_more S T P Q d lines out WriteFault starts each (inl front) =
     inl (record {
       before = front.before;
       start = starts front.before front.start;
       after = front.after;
-      play = front_with P Q d front.before front.after lines out.before out.after front.play (each front.before front.start (front.play.events ++ front.play.last ∷ []) front.after front.play.play front.play.each);
+      play =
+          front_with P Q d front.before front.after lines out.before out.after front.play
+          (each front.before front.start (front.play.events ++ front.play.last ∷ []) front.after front.play.play front.play.each);
     })
 ends_more S T P Q d lines out WriteFault starts each (inr all) =
     let p = all.1 in
-    inr (all.0, record { before = p.before; start = starts p.before p.start; after = p.after; play = play_with P Q d p.before p.after lines out.before all.0 p.play (each p.before p.start p.play.events p.after p.play.play p.play.each) }, all.2)
+    inr (
+      all.0,
+      record {
+        before = p.before;
+        start = starts p.before p.start;
+        after = p.after;
+        play = play_with P Q d p.before p.after lines out.before all.0 p.play (each p.before p.start p.play.events p.after p.play.play p.play.each);
+      },
+      all.2,
+    )
 ends_more S T P Q d lines out OutOfMemory starts each ends = ends
 ends_more S T P Q d lines out BadWords starts each ends = absurd ends
 ends_more S T P Q d lines out BadScript starts each ends = absurd ends
@@ -155,7 +178,8 @@ ends_more S T P Q d lines out ReadFault starts each ends = absurd ends
 ends_more S T P Q d lines out Unsound starts each ends = absurd ends
 
 -- a play of all lines of a script says what its status says
-pub says_play : (S : View → Type 0) (P : Event → Type 0) (d : Numbers) (script : Input) (out : Output) (lines : List Line) → HasLines script lines → All IsPlayed lines → (status : Status) → EndsPlay S P d lines out status
+pub says_play : (S : View → Type 0) (P : Event → Type 0) (d : Numbers) (script : Input) (out : Output) (lines : List Line) → HasLines script lines → All IsPlayed lines → (status : Status)
+    → EndsPlay S P d lines out status
     → SaysPlay S P d script out status
 says_play S P d script out lines is_script played Done ends = record { lines = lines; is_script = is_script; played = played; ends = ends }
 says_play S P d script out lines is_script played WriteFault ends = record { lines = lines; is_script = is_script; played = played; ends = ends }

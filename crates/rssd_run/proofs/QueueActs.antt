@@ -64,7 +64,8 @@ acts_to_then d a b c u v w log between log_after x y = record {
       ∙ ap (λ (xs : List Io). log ++ xs) (sym (ap all_given (texts_append x.acts y.acts) ∙ given_append (texts_of x.acts) (texts_of y.acts)))));
 }
 
-pub acts_cut_then : (d : Numbers) (a b : Place) (u v w : View) (log between log_after : List Io) → ActsTo d a u b v log between → ActsCutOff d b v w between log_after → ActsCutOff d a u w log log_after
+pub acts_cut_then : (d : Numbers) (a b : Place) (u v w : View) (log between log_after : List Io) → ActsTo d a u b v log between → ActsCutOff d b v w between log_after
+    → ActsCutOff d a u w log log_after
 acts_cut_then d a b u v w log between log_after x y =
     let tail : List Io = moved (take y.front y.last) ∷ failed ∷ [] in
     record {

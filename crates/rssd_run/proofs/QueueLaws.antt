@@ -52,7 +52,8 @@ same_served (Served c e ∷ acts) = ap (λ cs. c ∷ cs) (same_served acts)
 same_served (AtOnce tag e ∷ acts) = same_served acts
 
 -- acts that begin and end where nothing waits
-pub serves_all : (d : Numbers) (acts : List Act) (from to : Place) (before after : View) → from.queue.commands ≡ [] → from.queue.passed ≡ 0 → to.queue.commands ≡ [] → AreActs d from before acts to after
+pub serves_all : (d : Numbers) (acts : List Act) (from to : Place) (before after : View) → from.queue.commands ≡ [] → from.queue.passed ≡ 0 → to.queue.commands ≡ []
+    → AreActs d from before acts to after
     → ServesAll from.queue.sector_bytes acts
 serves_all d acts from to before after none passed left run =
     let size : ℕ = from.queue.sector_bytes in

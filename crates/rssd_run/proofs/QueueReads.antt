@@ -1,5 +1,6 @@
 -- Where no served command is refused, the array's rows change by the served commands alone, as they do in the queue's own runs.
-use Rattle.std.proofs.Common.{◌≡◌, ◌⊎◌, inl, inr, ℕ, ◌+◌, ◌-◌, ◌<◌, ◌≤◌, true, false, not, All, List, [], ◌∷◌, ◌++◌, length, replicate, get_or, set, Option, None, Some, MatchOption, refl, sym, ap, ◌∙◌, subst, arith, length-append}
+use Rattle.std.proofs.Common.{◌≡◌, ◌⊎◌, inl, inr, ℕ, ◌+◌, ◌-◌, ◌<◌, ◌≤◌, true, false, not, All, List, [], ◌∷◌, ◌++◌, length, replicate, get_or, set, Option, None, Some, MatchOption, refl, sym}
+use Rattle.std.proofs.Common.{ap, ◌∙◌, subst, arith, length-append}
 use Rattle.std.specs.List.{AllByRecursion}
 use Rattle.std.proofs.lemmas.Bool.{cases_lt, ltb-true}
 use Rattle.std.proofs.lemmas.List.{get_or_append_left, get_or-append_right}
@@ -85,7 +86,8 @@ refused_rows rows array next SaysOff has row = same_rows rows array next has row
 refused_rows rows array next reply has row = absurd row
 
 -- a write, read or trim while the array is off
-off_rows : (size : ℕ) (rows a b : List (List ℕ)) (next : ArrayState) (line : Line) (ask : Ask) (reply : Reply) → ask_of line ≡ Some ask → HasRows rows (Off a b) → IsRow size (Off a b) line reply next → HasRows rows next
+off_rows : (size : ℕ) (rows a b : List (List ℕ)) (next : ArrayState) (line : Line) (ask : Ask) (reply : Reply) → ask_of line ≡ Some ask → HasRows rows (Off a b)
+    → IsRow size (Off a b) line reply next → HasRows rows next
 off_rows size rows a b next (Write sector bytes) ask reply asks has row = refused_rows rows (Off a b) next reply has row
 off_rows size rows a b next (Read sector) ask reply asks has row = refused_rows rows (Off a b) next reply has row
 off_rows size rows a b next (Trim sector) ask reply asks has row = refused_rows rows (Off a b) next reply has row
@@ -96,7 +98,8 @@ off_rows size rows a b next Mount ask reply asks has row = cc
 off_rows size rows a b next Stat ask reply asks has row = cc
 
 -- a write, read or trim that is answered `range` or `long`
-ranged_rows : (size : ℕ) (rows a : List (List ℕ)) (next : ArrayState) (line : Line) (ask : Ask) (reply : Reply) → ask_of line ≡ Some ask → a ≡ rows → (reply ≡ Range) ⊎ (reply ≡ Long) → IsRow size (On a) line reply next
+ranged_rows : (size : ℕ) (rows a : List (List ℕ)) (next : ArrayState) (line : Line) (ask : Ask) (reply : Reply) → ask_of line ≡ Some ask → a ≡ rows → (reply ≡ Range) ⊎ (reply ≡ Long)
+    → IsRow size (On a) line reply next
     → HasRows rows next
 ranged_rows size rows a next (Write sector bytes) ask Range asks has is row = rw row has
 ranged_rows size rows a next (Write sector bytes) ask Long asks has is row = rw row has
@@ -169,7 +172,9 @@ read_tells rows row reply next bytes is read = cc
 module _ (size : ℕ) (rows : List (List ℕ)) (reply : Reply) (next : ArrayState) (done : IsDone reply) where
   served_on : (a : List (List ℕ)) (ask : Ask) → a ≡ rows → IsWhole size ask → IsRow size (On a) (line_of ask) reply next → ServedRows size rows ask reply next
   served_on a (asks.Write sector bytes) has whole row = record {
-    after = rw (write_done a (written size a sector bytes) reply next done row) (ap (written size a sector) refl ∙ (ap (λ (b : List ℕ). set a sector b) (filled_none size bytes whole) ∙ ap (λ (r : List (List ℕ)). set r sector bytes) has));
+    after =
+        rw (write_done a (written size a sector bytes) reply next done row)
+        (ap (written size a sector) refl ∙ (ap (λ (b : List ℕ). set a sector b) (filled_none size bytes whole) ∙ ap (λ (r : List (List ℕ)). set r sector bytes) has));
     told = λ b is. absurd (write_tells a (written size a sector bytes) reply next b is row);
   }
   served_on a (asks.Read sector) has whole row = record {
@@ -395,7 +400,8 @@ rows_after size rows (act ∷ acts) = rows_after size (rows_next size rows act) 
 abbrev seen : Waiting → List (List ℕ) → queue_runs.State
 seen queue rows = record { queue = queue; rows = rows }
 
-queue_run : (d : Numbers) (acts : List Act) (from to : Place) (before after : View) (rows : List (List ℕ)) → HasAll d from.queue rows before → AreActs d from before acts to after → AllByRecursion NotRefused acts
+queue_run : (d : Numbers) (acts : List Act) (from to : Place) (before after : View) (rows : List (List ℕ)) → HasAll d from.queue rows before → AreActs d from before acts to after
+    → AllByRecursion NotRefused acts
     → queue_runs.IsRun (seen from.queue rows) (events_of d.geometry.sector_bytes rows acts) (seen to.queue (rows_after d.geometry.sector_bytes rows acts))
 unfolding AreActs
 queue_run d [] from to before after rows all run none = ap (λ (p : Place). seen p.queue rows) run.0
@@ -472,16 +478,24 @@ reads_the_order d acts from to before after rows on none passed sectors bytes_ar
     let later : List queue_runs.Event = events_of size (queue_runs.carried size (rows_after size rows first) c.ask) rest in
     let events : List queue_runs.Event = events_of size rows (first ++ Served c e ∷ rest) in
     let events_are : events ≡ events_of size rows first ++ queue_runs.Served c (Row row) ∷ later
-    = events_append size rows first (Served c e ∷ rest) ∙ ap (λ (a : Answer). events_of size rows first ++ queue_runs.Served c a ∷ later) (answer_read (rows_after size rows first) c.ask read.sector read.read) in
-    let is_run = subst (λ (es : List queue_runs.Event). queue_runs.IsRun (seen from.queue rows) es (seen to.queue last_rows)) events_are (queue_run d (first ++ Served c e ∷ rest) from to before after rows all run' none_of) in
+    =
+    events_append size rows first (Served c e ∷ rest)
+    ∙ ap (λ (a : Answer). events_of size rows first ++ queue_runs.Served c a ∷ later) (answer_read (rows_after size rows first) c.ask read.sector read.read) in
+    let is_run =
+    subst (λ (es : List queue_runs.Event). queue_runs.IsRun (seen from.queue rows) es (seen to.queue last_rows)) events_are
+    (queue_run d (first ++ Served c e ∷ rest) from to before after rows all run' none_of) in
     let well = subst (All queue_runs.NotRefused) events_are (All-from_recursion queue_runs.NotRefused events (none_refused size rows (first ++ Served c e ∷ rest))) in
     let found = reads_in_order (seen from.queue rows) (seen to.queue last_rows) (events_of size rows first) later c row (record { none = none; passed = passed }) is_run well in
-    let found' : queue_runs.ReadInOrder size rows (queue_runs.accepted_in size (events_of size rows first ++ queue_runs.Served c (Row row) ∷ later)) (queue_runs.served_in (events_of size rows first)) c row
-    = subst (λ (n : ℕ). queue_runs.ReadInOrder n rows (queue_runs.accepted_in n (events_of size rows first ++ queue_runs.Served c (Row row) ∷ later)) (queue_runs.served_in (events_of size rows first)) c row) bytes_are found in
+    let found' : queue_runs.ReadInOrder size rows (queue_runs.accepted_in size (events_of size rows first ++ queue_runs.Served c (Row row) ∷ later))
+    (queue_runs.served_in (events_of size rows first)) c row
+    =
+    subst (λ (n : ℕ). queue_runs.ReadInOrder n rows (queue_runs.accepted_in n (events_of size rows first ++ queue_runs.Served c (Row row) ∷ later))
+    (queue_runs.served_in (events_of size rows first)) c row) bytes_are found in
     let accepted_are : queue_runs.accepted_in size (events_of size rows first ++ queue_runs.Served c (Row row) ∷ later) ≡ accepted_in size acts
     = ap (queue_runs.accepted_in size) (sym events_are) ∙ (same_accepted size size rows (first ++ Served c e ∷ rest) ∙ ap (accepted_in size) (sym parts)) in (
       row,
       read.told,
       subst (λ (cs : List Tagged). queue_runs.ReadInOrder size rows cs (served_in first) c row) accepted_are
-          (subst (λ (cs : List Tagged). queue_runs.ReadInOrder size rows (queue_runs.accepted_in size (events_of size rows first ++ queue_runs.Served c (Row row) ∷ later)) cs c row) (same_served size rows first) found'),
+          (subst (λ (cs : List Tagged). queue_runs.ReadInOrder size rows (queue_runs.accepted_in size (events_of size rows first ++ queue_runs.Served c (Row row) ∷ later)) cs c row)
+          (same_served size rows first) found'),
     )

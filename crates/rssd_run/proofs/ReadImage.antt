@@ -19,7 +19,8 @@ use Rattle.rssd_run.specs.ReadImage.{ReadsImage, IsNoImageFor, AreNoImage, Refus
 pub fed_none : (log : List Event) (was : Fed) → was.is_failed ≡ false → was.bytes ≡ [] → IsWithinReach was → IsFed log log was was
 fed_none log was well none within = record { events = []; came = sym (append-nil log); served = refl; bytes = none; version = refl; well = well; within = within }
 
-pub fed_more : (old between new : List Event) (was fed next : Fed) (piece : List ℕ) → IsFed old between was fed → Adds (moved piece) between new → length piece ≤ wanted fed → next ≡ record fed { bytes = fed.bytes ++ piece }
+pub fed_more : (old between new : List Event) (was fed next : Fed) (piece : List ℕ) → IsFed old between was fed → Adds (moved piece) between new → length piece ≤ wanted fed
+    → next ≡ record fed { bytes = fed.bytes ++ piece }
     → IsFed old new was next
 fed_more old between new was fed next piece is adds fits next-is =
     subst (IsFed old new was) (sym next-is) (record {
@@ -55,7 +56,8 @@ has_ended old between new was fed is adds =
 
 -- ---- how much was taken
 
-takes : (is_old : Bool) (old new events : List Event) (bytes : List ℕ) → new ≡ old ++ events → bytes ≡ bytes_of events → length bytes ≤ reach_of is_old (head_read is_old bytes) → TakesImage is_old old new
+takes : (is_old : Bool) (old new events : List Event) (bytes : List ℕ) → new ≡ old ++ events → bytes ≡ bytes_of events → length bytes ≤ reach_of is_old (head_read is_old bytes)
+    → TakesImage is_old old new
 takes is_old old new events bytes came are within = record {
   grew = grew old new events came;
   most = subst (λ (xs : List ℕ). length xs ≤ reach_of is_old (head_read is_old xs)) (are ∙ ap bytes_of (sym (since_is old new events came))) within;
@@ -81,9 +83,11 @@ fault is_old old between new was fed is adds =
     ap failures (since_is old new (is.events ++ failed ∷ []) (more_came old between new is.events failed is.came adds)) ∙ omega (arith, failures_append is.events (failed ∷ []), is.served)
 
 -- a take was served, but there was no memory to feed what came
-pub stuck : (is_old : Bool) (old between new : List Event) (was fed : Fed) (piece : List ℕ) → IsFed old between was fed → Adds (moved piece) between new → RefusesImage is_old old new (Refused OutOfMemory)
+pub stuck : (is_old : Bool) (old between new : List Event) (was fed : Fed) (piece : List ℕ) → IsFed old between was fed → Adds (moved piece) between new
+    → RefusesImage is_old old new (Refused OutOfMemory)
 stuck is_old old between new was fed piece is adds = (
-  ap failures (since_is old new (is.events ++ moved piece ∷ []) (more_came old between new is.events (moved piece) is.came adds)) ∙ omega (arith, failures_append is.events (moved piece ∷ []), is.served),
+  ap failures (since_is old new (is.events ++ moved piece ∷ []) (more_came old between new is.events (moved piece) is.came adds))
+      ∙ omega (arith, failures_append is.events (moved piece ∷ []), is.served),
   tt,
 )
 
@@ -124,7 +128,8 @@ bytes_are old new was fed is = is.bytes ∙ ap bytes_of (sym (since_is old new i
 served : (old new : List Event) (was fed : Fed) → IsFed old new was fed → failures (since old new) ≡ 0
 served old new was fed is = ap failures (since_is old new is.events is.came) ∙ is.served
 
-pub reads_image : (old new : List Event) (was fed : Fed) (head : ImageHead) (cells : List ℕ) → IsFed old new was fed → HasAll (since old new) fed → end_read fed ≡ Ok (head, cells) → ReadsImage was.is_old old new head cells
+pub reads_image : (old new : List Event) (was fed : Fed) (head : ImageHead) (cells : List ℕ) → IsFed old new was fed → HasAll (since old new) fed → end_read fed ≡ Ok (head, cells)
+    → ReadsImage was.is_old old new head cells
 reads_image old new was fed head cells is all read =
     let of_fed : image_read fed.is_old fed.bytes ≡ Ok (head, cells) = sym (end_of fed is.well) ∙ read in
     subst (λ (is_old : Bool). ReadsImage is_old old new head cells) is.version (record {
@@ -133,7 +138,8 @@ reads_image old new was fed head cells is all read =
       reads = subst (λ (xs : List ℕ). image_read fed.is_old xs ≡ Ok (head, cells)) (bytes_are old new was fed is) of_fed;
     })
 
-settled : (events : List Event) (fed : Fed) (why : ImageError) → fed.is_failed ≡ false → image_read fed.is_old fed.bytes ≡ Err why → HasAll events fed → HasEnded events ⊎ IsRefusedAnyway fed.is_old fed.bytes why
+settled : (events : List Event) (fed : Fed) (why : ImageError) → fed.is_failed ≡ false → image_read fed.is_old fed.bytes ≡ Err why → HasAll events fed
+    → HasEnded events ⊎ IsRefusedAnyway fed.is_old fed.bytes why
 settled events fed why well read (inl ended) = inl ended
 settled events fed why well read (inr none) =
     let anyway = refused_anyway fed well none in

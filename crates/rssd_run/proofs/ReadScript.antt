@@ -22,7 +22,8 @@ pub read_none : (log : List Event) (reader : ScriptReader) → HasRead reader []
 read_none log reader read = record { events = []; came = sym (append-nil log); served = refl; read = read; counted = refl }
 
 -- a piece more was taken and read
-pub read_more : {old between new : List Event} {reader next : ScriptReader} {room : ℕ} (count : ℕ) (into : List ℕ) → HasReadSo old between reader room → Adds (moved (take count into)) between new → count ≤ length into → count ≤ room
+pub read_more : {old between new : List Event} {reader next : ScriptReader} {room : ℕ} (count : ℕ) (into : List ℕ) → HasReadSo old between reader room → Adds (moved (take count into)) between new
+    → count ≤ length into → count ≤ room
     → ((text : List ℕ) → HasRead reader text → HasRead next (text ++ take count into)) → HasReadSo old new next (room - count)
 read_more {old = old} {between = between} {new = new} {next = next} count into so adds short fits feeds =
     let piece = take count into in
@@ -35,7 +36,8 @@ read_more {old = old} {between = between} {new = new} {next = next} count into s
     }
 
 -- so much is on record, by these events
-read_all_by : (old new events : List Event) (reader : ScriptReader) → new ≡ old ++ events → failures events ≡ 0 → HasRead reader (bytes_of events) → (length (bytes_of events) ≤ most_bytes → HasEnded events) → HasReadAll old new reader
+read_all_by : (old new events : List Event) (reader : ScriptReader) → new ≡ old ++ events → failures events ≡ 0 → HasRead reader (bytes_of events)
+    → (length (bytes_of events) ≤ most_bytes → HasEnded events) → HasReadAll old new reader
 read_all_by old new events reader came served read whole =
     let is : events ≡ since old new = sym (since_is old new events came) in
     record {
@@ -45,7 +47,8 @@ read_all_by old new events reader came served read whole =
     }
 
 -- the source is at its end
-pub read_to_end : {old between new : List Event} {reader : ScriptReader} {room : ℕ} (count : ℕ) (into : List ℕ) → count ≡ 0 → HasReadSo old between reader room → Adds (moved (take count into)) between new → HasReadAll old new reader
+pub read_to_end : {old between new : List Event} {reader : ScriptReader} {room : ℕ} (count : ℕ) (into : List ℕ) → count ≡ 0 → HasReadSo old between reader room
+    → Adds (moved (take count into)) between new → HasReadAll old new reader
 read_to_end {old = old} {between = between} {new = new} {reader = reader} count into none so took =
     let adds : Adds (moved []) between new = subst (λ (n : ℕ). Adds (moved (take n into)) between new) none took in
     read_all_by old new (so.events ++ moved [] ∷ []) reader (more_came old between new so.events (moved []) so.came adds)
@@ -62,9 +65,11 @@ read_failed {old = old} {between = between} {new = new} so adds =
     ap failures (since_is old new (so.events ++ failed ∷ []) (more_came old between new so.events failed so.came adds)) ∙ omega (arith, failures_append so.events (failed ∷ []), so.served)
 
 -- a take was served, but there was no memory to read what came
-pub read_stuck : {old between new : List Event} {reader : ScriptReader} {room : ℕ} (piece : List ℕ) → HasReadSo old between reader room → Adds (moved piece) between new → RefusesRead old new (Refused OutOfMemory)
+pub read_stuck : {old between new : List Event} {reader : ScriptReader} {room : ℕ} (piece : List ℕ) → HasReadSo old between reader room → Adds (moved piece) between new
+    → RefusesRead old new (Refused OutOfMemory)
 read_stuck {old = old} {between = between} {new = new} piece so adds = (
-  ap failures (since_is old new (so.events ++ moved piece ∷ []) (more_came old between new so.events (moved piece) so.came adds)) ∙ omega (arith, failures_append so.events (moved piece ∷ []), so.served),
+  ap failures (since_is old new (so.events ++ moved piece ∷ []) (more_came old between new so.events (moved piece) so.came adds))
+      ∙ omega (arith, failures_append so.events (moved piece ∷ []), so.served),
   tt,
 )
 
@@ -80,7 +85,8 @@ pub takes_so : {old new : List Event} {reader : ScriptReader} {room : ℕ} → H
 takes_so {old = old} {new = new} so = takes old new so.events so.came (omega (arith, so.counted))
 
 -- one take more, of no more than there is room for, or one that failed
-pub takes_more : {old between new : List Event} {reader : ScriptReader} {room : ℕ} (count : ℕ) (into : List ℕ) → HasReadSo old between reader room → Adds (moved (take count into)) between new → count ≤ length into → count ≤ room → TakesScript old new
+pub takes_more : {old between new : List Event} {reader : ScriptReader} {room : ℕ} (count : ℕ) (into : List ℕ) → HasReadSo old between reader room → Adds (moved (take count into)) between new
+    → count ≤ length into → count ≤ room → TakesScript old new
 takes_more {old = old} {between = between} {new = new} count into so adds short fits =
     let piece = take count into in
     takes old new (so.events ++ moved piece ∷ []) (more_came old between new so.events (moved piece) so.came adds)
@@ -103,7 +109,8 @@ pub reads_all : (old new : List Event) (reader : ScriptReader) (lines : List Lin
 reads_all old new reader lines all reads = record { served = all.served; ended = all.whole reads.0; reads = reads }
 
 -- a reader that did not fail has read what it was fed, a front of this buffer
-pub fed : {E : Type 0} (result : Result (Unit {0}) E) (reader next : ScriptReader) (count : ℕ) (into rest : List ℕ) → ((text : List ℕ) → HasRead reader text → OnOk result (HasRead next (text ++ take count (into ++ rest)))) → false ≡ is_err result → count ≤ length into
+pub fed : {E : Type 0} (result : Result (Unit {0}) E) (reader next : ScriptReader) (count : ℕ) (into rest : List ℕ)
+    → ((text : List ℕ) → HasRead reader text → OnOk result (HasRead next (text ++ take count (into ++ rest)))) → false ≡ is_err result → count ≤ length into
     → (text : List ℕ) → HasRead reader text → HasRead next (text ++ take count into)
 fed (Ok x) reader next count into rest reads served short text read = subst (λ (xs : List ℕ). HasRead next (text ++ xs)) (take-append-le count into rest short) (reads text read)
 fed (Err e) reader next count into rest reads served short text read = absurd (false≢true served)

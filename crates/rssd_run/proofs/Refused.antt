@@ -117,9 +117,11 @@ is_spent d e here near few spent reply = record {
 -- ---- on a device that runs
 
 -- a line that leaves each view as it is
-pub still_steps : (d : Numbers) (old : DeviceValue) → IsKept d old → old.stopped ≡ false → (line : Line) (reply : Reply) → ((base : Tallies) → Stays d (on d base old) line reply) → Steps d line reply old old
+pub still_steps : (d : Numbers) (old : DeviceValue) → IsKept d old → old.stopped ≡ false → (line : Line) (reply : Reply) → ((base : Tallies) → Stays d (on d base old) line reply)
+    → Steps d line reply old old
 still_steps d old kept running line reply stays =
-    runs_on d line reply old old kept (keeps_none d old.view.die) running (λ calm base. stays_step d (on d base old) line reply refl (λ o. kept.book running) (λ o tells. kept.power running) (omega arith) (omega arith) (omega arith) (stays base))
+    runs_on d line reply old old kept (keeps_none d old.view.die) running
+    (λ calm base. stays_step d (on d base old) line reply refl (λ o. kept.book running) (λ o tells. kept.power running) (omega arith) (omega arith) (omega arith) (stays base))
 
 module _ (d : Numbers) (old : DeviceValue) (base : Tallies) where
   pub write_range : (sector : ℕ) (bytes : List ℕ) → d.geometry.sectors ≤ sector → Stays d (on d base old) (Write sector bytes) Range
@@ -257,7 +259,8 @@ record OffStays (d : Numbers) (v : View) (line : Line) : Type 0 where
   calls : (change_calls d v.device line SaysOff ≡ 0) × (read_calls d v.device line SaysOff ≡ 0)
 
 off_stays : (d : Numbers) (v : View) (line : Line) → v.device.moved < 2 ^ 64 → (AlwaysAnswered line → ⊥) → OffStays d v line
-off_stays d v (Write sector bytes) small never = record { no_mount = λ h. cc; idle = tt; moves = (still_moves d v (Write sector bytes) SaysOff small refl refl, tt); arms = tt; leaves = refl; calls = (refl, refl) }
+off_stays d v (Write sector bytes) small never =
+    record { no_mount = λ h. cc; idle = tt; moves = (still_moves d v (Write sector bytes) SaysOff small refl refl, tt); arms = tt; leaves = refl; calls = (refl, refl) }
 off_stays d v (Read sector) small never = record { no_mount = λ h. cc; idle = tt; moves = (still_moves d v (Read sector) SaysOff small refl refl, tt); arms = tt; leaves = refl; calls = (refl, refl) }
 off_stays d v (Trim sector) small never = record { no_mount = λ h. cc; idle = tt; moves = (still_moves d v (Trim sector) SaysOff small refl refl, tt); arms = tt; leaves = refl; calls = (refl, refl) }
 off_stays d v (Idle n) small never = record { no_mount = λ h. cc; idle = tt; moves = (still_moves d v (Idle n) SaysOff small refl refl, tt); arms = tt; leaves = refl; calls = (refl, refl) }

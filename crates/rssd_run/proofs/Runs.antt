@@ -58,7 +58,8 @@ module _ (d : Numbers) (before now after : View) (lines : List Line) (line : Lin
       }
 
   -- one line more, of whose text a front was given
-  pub run_cut_off : (all : List Line) → lines ++ line ∷ [] ≡ take (length lines + 1) all → (front : ℕ) → log_after ≡ between ++ moved (take front (reply_line reply)) ∷ failed ∷ [] → RunCutOff d before all after log log_after
+  pub run_cut_off : (all : List Line) → lines ++ line ∷ [] ≡ take (length lines + 1) all → (front : ℕ) → log_after ≡ between ++ moved (take front (reply_line reply)) ∷ failed ∷ []
+      → RunCutOff d before all after log log_after
   run_cut_off all front_is front given =
       let e : Event = record { line = line; reply = reply; before = now; after = after } in
       record {
@@ -67,7 +68,9 @@ module _ (d : Numbers) (before now after : View) (lines : List Line) (line : Lin
         run = run_more d before r.events now e r.run refl step;
         of_lines = lines_more r.events e ∙ (ap (λ ls. ls ++ line ∷ []) r.of_lines ∙ (front_is ∙ ap (λ n. take (n + 1) all) (ap length (sym r.of_lines) ∙ length_lines r.events)));
         front = front;
-        given = given ∙ (ap (λ (xs : List Act). xs ++ moved (take front (reply_line reply)) ∷ failed ∷ []) r.given ∙ append_assoc log (all_given (pieces_of r.events)) (moved (take front (reply_line reply)) ∷ failed ∷ []));
+        given =
+            given ∙ (ap (λ (xs : List Act). xs ++ moved (take front (reply_line reply)) ∷ failed ∷ []) r.given
+            ∙ append_assoc log (all_given (pieces_of r.events)) (moved (take front (reply_line reply)) ∷ failed ∷ []));
       }
     where
       length_lines : (events : List Event) → length (lines_of events) ≡ length events
@@ -92,7 +95,8 @@ cut_told : (n : ℕ) (x : Option Failures) → cut_in (option_map (with_read_fai
 cut_told n None = refl
 cut_told n (Some a) = refl
 
-module _ (d : Numbers) (before after : View) (line : Line) (reply : Reply) (step : IsStep d (record { line = line; reply = reply; before = before; after = after })) (none : cut_of before.device.die ≡ 0) where
+module _ (d : Numbers) (before after : View) (line : Line) (reply : Reply) (step : IsStep d (record { line = line; reply = reply; before = before; after = after }))
+    (none : cut_of before.device.die ≡ 0) where
   unarmed : (IsArming line reply → ⊥) → cut_of after.device.die ≡ 0
   unarmed arming = elim (fault_or reply) [
     | inr other ↦ let low = (step.armed.lowers arming other).cut.lower in omega arith
@@ -102,7 +106,8 @@ module _ (d : Numbers) (before after : View) (line : Line) (reply : Reply) (step
     ]
   ]
 
-calm_line : (d : Numbers) (before after : View) (line : Line) (reply : Reply) → IsStep d (record { line = line; reply = reply; before = before; after = after }) → cut_of before.device.die ≡ 0 → is_cut line ≡ false
+calm_line : (d : Numbers) (before after : View) (line : Line) (reply : Reply) → IsStep d (record { line = line; reply = reply; before = before; after = after }) → cut_of before.device.die ≡ 0
+    → is_cut line ≡ false
     → cut_of after.device.die ≡ 0
 calm_line d before after (Write sector bytes) reply step none other = unarmed d before after (Write sector bytes) reply step none (λ h. h)
 calm_line d before after (Read sector) reply step none other = unarmed d before after (Read sector) reply step none (λ h. h)

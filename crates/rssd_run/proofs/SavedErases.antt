@@ -45,7 +45,8 @@ once_sum (x ∷ xs) (y ∷ ys) zero count others =
     let here : y ≡ raised x = count in let rest = same_sum xs ys (λ k. others (suc k) (λ e. omega (arith, e))) in let all = with_first y ys in let was = with_first x xs in
     omega (arith, here, rest, all, was)
 once_sum (x ∷ xs) (y ∷ ys) (suc block) count others =
-    let here : y ≡ x = others 0 (λ e. omega (arith, e)) in let rest = once_sum xs ys block count (λ k apart. others (suc k) (λ e. apart (omega (arith, e)))) in let all = with_first y ys in let was = with_first x xs in
+    let here : y ≡ x = others 0 (λ e. omega (arith, e)) in let rest = once_sum xs ys block count (λ k apart. others (suc k) (λ e. apart (omega (arith, e)))) in let all =
+    with_first y ys in let was = with_first x xs in
     omega (arith, here, rest, all, was)
 
 -- ---- one line

@@ -103,7 +103,13 @@ closed_down d base plan None None none = record { down = λ view shows. absurd s
 pub off_steps : (d : Numbers) (session : SessionValue) (line : Line) → IsDown d session → AreSmall session.base → (AlwaysAnswered line → ⊥) → StepsSession d line SaysOff session session
 off_steps d session line is small never = record {
   keeps = stays d session;
-  step = λ before shows calm. (before, shows, off_step d before line (shows_stands d session.base session.holding before shows) (is.down before shows) (shows_small d session.base session.holding before small shows) never);
+  step =
+      λ before shows calm. (
+        before,
+        shows,
+        off_step d before line (shows_stands d session.base session.holding before shows) (is.down before shows)
+            (shows_small d session.base session.holding before small shows) never,
+      );
 }
 
 -- ---- `stat`
@@ -119,13 +125,15 @@ runs_on device rows array true e is here = absurd (not_on array here is.0)
 
 -- while a view is on, the book is true
 true_on : (d : Numbers) (plan : Plan) (base : Tallies) (holding : Holding) (view : View) → IsHeld plan holding → HasNumbers d holding → ShowsHolding d base holding view → TrueWhileOn d view
-true_on d plan base (Mounted device) view held numbers shows = λ here. rw shows.0 ((subst (λ (n : Numbers). IsKept n device) numbers held.1).book (runs_on device (rows_of d device.view) view.array device.stopped refl shows.1 here))
+true_on d plan base (Mounted device) view held numbers shows =
+    λ here. rw shows.0 ((subst (λ (n : Numbers). IsKept n device) numbers held.1).book (runs_on device (rows_of d device.view) view.array device.stopped refl shows.1 here))
 true_on d plan base (Closed numbers' die) view held numbers shows = λ here. absurd (not_on view.array here shows.2)
 true_on d plan base Nothing view held numbers shows = absurd shows
 
 -- and its die has power
 power_on : (d : Numbers) (plan : Plan) (base : Tallies) (holding : Holding) (view : View) → IsHeld plan holding → HasNumbers d holding → ShowsHolding d base holding view → PoweredWhileOn view
-power_on d plan base (Mounted device) view held numbers shows = λ here tells. rw shows.0 ((subst (λ (n : Numbers). IsKept n device) numbers held.1).power (runs_on device (rows_of d device.view) view.array device.stopped refl shows.1 here))
+power_on d plan base (Mounted device) view held numbers shows =
+    λ here tells. rw shows.0 ((subst (λ (n : Numbers). IsKept n device) numbers held.1).power (runs_on device (rows_of d device.view) view.array device.stopped refl shows.1 here))
 power_on d plan base (Closed numbers' die) view held numbers shows = λ here. absurd (not_on view.array here shows.2)
 power_on d plan base Nothing view held numbers shows = absurd shows
 

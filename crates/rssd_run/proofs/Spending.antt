@@ -97,7 +97,8 @@ step_spends d bound e step below small said =
     let low = below.seq in
     omega (arith, high, low, small)
 
-runs_never_spend : (d : Numbers) (bound : ℕ) (before : View) (events : List Event) (after : View) → IsRun d before events after → IsBelow d bound before → bound + 256 * length events < 2 ^ 62 → AllByRecursion NeverSpends events
+runs_never_spend : (d : Numbers) (bound : ℕ) (before : View) (events : List Event) (after : View) → IsRun d before events after → IsBelow d bound before → bound + 256 * length events < 2 ^ 62
+    → AllByRecursion NeverSpends events
 unfolding IsRun
 runs_never_spend d bound before [] after run below small = tt
 runs_never_spend d bound before (e ∷ events) after run below small =

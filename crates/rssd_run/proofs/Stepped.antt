@@ -74,7 +74,8 @@ module _ (d : Numbers) (old new : DeviceValue) (kept : IsKept d old) (running : 
   -- a call that passed
   pub went_steps : {changes reads : ℕ} {Bounded : Type 0} (line : Line) (reply : Reply) → Went changes reads Bounded old.view.die new.view.die → new.stopped ≡ false
       → ((base : Tallies) → IsStep d (event_of line reply (on d base old) (on d base new))) → Steps d line reply old new
-  went_steps line reply went runs step = runs_on d line reply old new (kept_on (went_power old.view.die new.view.die (kept.power running) went)) (die_kept (went_tells old.view.die new.view.die went)) runs (λ calm. step)
+  went_steps line reply went runs step =
+      runs_on d line reply old new (kept_on (went_power old.view.die new.view.die (kept.power running) went)) (die_kept (went_tells old.view.die new.view.die went)) runs (λ calm. step)
 
   -- a call in which the die failed
   pub fault_steps : (line : Line) (Within : ℕ → ℕ → Type 0) (done : List (List ℕ)) → Faulted d Within done old new
@@ -110,8 +111,10 @@ pub write_fault_steps : (d : Numbers) (sector : ℕ) (bytes : List ℕ) (old new
     → old.stopped ≡ false → Holds d old new → WriteFault d sector (filled_up d.geometry.sector_bytes bytes) old new → Steps d (Write sector bytes) Fault old new
 write_fault_steps d sector bytes old new in_range fits kept running holds w =
     let tried : Tried d old sector bytes = record { in_range = in_range; fits = fits; numbers = w.fresh } in
-    fault_steps d old new kept running holds (Write sector bytes) (WithinWrite d old.view (filled_up d.geometry.sector_bytes bytes)) (written d.geometry.sector_bytes (rows_of d old.view) sector bytes) w.fault
-    (λ f base. write_read_fault d base old new sector bytes tried (kept.power running) holds w f) (λ f calm base. write_change_fault d base old new sector bytes tried (kept.power running) calm holds w f)
+    fault_steps d old new kept running holds (Write sector bytes) (WithinWrite d old.view (filled_up d.geometry.sector_bytes bytes))
+    (written d.geometry.sector_bytes (rows_of d old.view) sector bytes) w.fault
+    (λ f base. write_read_fault d base old new sector bytes tried (kept.power running) holds w f)
+    (λ f calm base. write_change_fault d base old new sector bytes tried (kept.power running) calm holds w f)
 
 -- ---- trims and idle calls
 
@@ -151,19 +154,22 @@ pub cut_steps : (d : Numbers) (old : DeviceValue) (n : ℕ) (torn : TornWord) �
     → Steps d (CutLine n torn) Done old (with_die (told (with_cut n (form_of_word torn))) old)
 cut_steps d old n torn some kept running =
     runs_on d (CutLine n torn) Done old (with_die (told (with_cut n (form_of_word torn))) old) (told_kept (with_cut n (form_of_word torn)) (λ failures. refl) d old kept)
-    (keeps_die d old.view.die (told (with_cut n (form_of_word torn)) old.view.die) refl (record { cells = refl; erases = refl }) (still_tells (with_cut n (form_of_word torn)) (λ failures. refl) old.view.die.failures)) running
+    (keeps_die d old.view.die (told (with_cut n (form_of_word torn)) old.view.die) refl (record { cells = refl; erases = refl })
+    (still_tells (with_cut n (form_of_word torn)) (λ failures. refl) old.view.die.failures)) running
     (λ calm base. cut_step d base old n torn some running (kept.power running) kept.book)
 
 pub fail_read_steps : (d : Numbers) (old : DeviceValue) (n : ℕ) → 1 ≤ n → IsKept d old → old.stopped ≡ false → Steps d (FailRead n) Done old (with_die (told (with_read_failure n)) old)
 fail_read_steps d old n some kept running =
     runs_on d (FailRead n) Done old (with_die (told (with_read_failure n)) old) (told_kept (with_read_failure n) (λ failures. refl) d old kept)
-    (keeps_die d old.view.die (told (with_read_failure n) old.view.die) refl (record { cells = refl; erases = refl }) (still_tells (with_read_failure n) (λ failures. refl) old.view.die.failures)) running
+    (keeps_die d old.view.die (told (with_read_failure n) old.view.die) refl (record { cells = refl; erases = refl })
+    (still_tells (with_read_failure n) (λ failures. refl) old.view.die.failures)) running
     (λ calm base. fail_read_step d base old n some running (kept.power running) kept.book)
 
 -- ---- reads
 
 -- after a read nothing but the die differs
-module _ (d : Numbers) (old new : DeviceValue) (sector : ℕ) (in_range : sector < d.geometry.sectors) (kept : IsKept d old) (running : old.stopped ≡ false) (holds : Holds d old new) (only : OnlyDie old new) where
+module _ (d : Numbers) (old new : DeviceValue) (sector : ℕ) (in_range : sector < d.geometry.sectors) (kept : IsKept d old) (running : old.stopped ≡ false) (holds : Holds d old new)
+    (only : OnlyDie old new) where
   is_over : new ≡ with_die (λ before. new.view.die) old
   is_over = only.rest
 
@@ -179,5 +185,6 @@ module _ (d : Numbers) (old new : DeviceValue) (sector : ℕ) (in_range : sector
   pub read_fault_steps : ReadFailed 0 (sector_reads d old.view sector) old.view.die new.view.die → Steps d (Read sector) Fault old new
   read_fault_steps failed =
       let came : AReadCame 0 (sector_reads d old.view sector) old.view.die new.view.die = read_came old.view.die new.view.die (kept.power running) failed in
-      runs_on d (Read sector) Fault old new (kept_on d old new kept running holds came.power) (die_kept d old new kept running holds (read_failed_tells old.view.die new.view.die failed)) (ap (λ device. device.stopped) is_over ∙ running)
+      runs_on d (Read sector) Fault old new (kept_on d old new kept running holds came.power) (die_kept d old new kept running holds (read_failed_tells old.view.die new.view.die failed))
+      (ap (λ device. device.stopped) is_over ∙ running)
       (λ calm base. rw is_over (read_fault_step d base old new.view.die sector in_range running (kept.power running) book_over holds.kept.shape only.cells failed))

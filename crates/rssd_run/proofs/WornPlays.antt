@@ -1,6 +1,7 @@
 -- A die with reserve blocks over a blank worn die is blank, its mount never fails, and a line of a play fails on it only where its
 -- reserve is used up.
-use Rattle.std.proofs.Common.{◌≡◌, ◌⊎◌, inl, inr, ℕ, zero, suc, ◌+◌, ◌-◌, ◌*◌, ◌/◌, ◌^◌, ◌<◌, ◌≤◌, min, ◌&&◌, ◌==◌, Bool, true, false, cond, not, List, [], ◌∷◌, All, get_or, count_by, refl, sym, ap, ◌∙◌, arith, subst, lit≤, if◌then◌else◌}
+use Rattle.std.proofs.Common.{◌≡◌, ◌⊎◌, inl, inr, ℕ, zero, suc, ◌+◌, ◌-◌, ◌*◌, ◌/◌, ◌^◌, ◌<◌, ◌≤◌, min, ◌&&◌, ◌==◌, Bool, true, false, cond, not, List, [], ◌∷◌, All, get_or, count_by, refl, sym}
+use Rattle.std.proofs.Common.{ap, ◌∙◌, arith, subst, lit≤, if◌then◌else◌}
 use Rattle.std.specs.List.{AllByRecursion, range_with_len}
 use Rattle.std.proofs.Math.Nat.{div-lt_iff_lt-mul, mul-le-mul_right}
 use Rattle.std.proofs.lemmas.Bool.{cases_Bool, false≢true}
@@ -192,7 +193,8 @@ module _ (head : ImageHead) (reserve bad : ℕ) (within : is_within_limits head 
       let inner : DieState = worn_state worn.inner in
       let below : page < head.blocks * inner.shape.pages = subst (λ (s : Shape). page < head.blocks * s.pages) (sym worn.blank.same_shape) inside in
       let placed : spare_place inner page < page_count inner.shape = place_inside inner head.blocks page (worn_shaped worn.inner).some_pages homes below in
-      page_of-spare inner head.blocks (own_of worn.tally) page below ∙ worn.blank.blank (spare_place inner page) (subst (λ (s : Shape). spare_place inner page < page_count s) worn.blank.same_shape placed)
+      page_of-spare inner head.blocks (own_of worn.tally) page below
+      ∙ worn.blank.blank (spare_place inner page) (subst (λ (s : Shape). spare_place inner page < page_count s) worn.blank.same_shape placed)
 
   pub worn_blank : IsBlankDie (shape_of head) die
   worn_blank = subst (IsBlankDie (shape_of head)) (sym worn.spare.shows) (record {
@@ -261,7 +263,8 @@ at_most p a (suc n) = elim (cases_Bool (p a)) [
 ]
 
 -- the reserve is named whole, or the table is full
-used_up : (inner : DieState) (logical : ℕ) → IsUsedUp inner logical → logical + 1 ≤ inner.shape.blocks → (named_count inner logical ≡ reserve_count inner logical) ⊎ (used_count inner ≡ inner.shape.pages)
+used_up : (inner : DieState) (logical : ℕ) → IsUsedUp inner logical → logical + 1 ≤ inner.shape.blocks
+    → (named_count inner logical ≡ reserve_count inner logical) ⊎ (used_count inner ≡ inner.shape.pages)
 used_up inner logical used room = elim (full_or (is_named inner) (1 + logical) (inner.shape.blocks - (1 + logical))) [
   | inl all ↦ inl all
   | inr free ↦ elim (full_or (is_used inner) 0 inner.shape.pages) [
@@ -278,7 +281,8 @@ pub record IsWornNow (head : ImageHead) (reserve bad : ℕ) (die : DieState) : T
 pub worn_now_after : (head : ImageHead) (reserve bad : ℕ) (old new : DieState) → IsWornNow head reserve bad old → Kept old new → IsWornNow head reserve bad new
 worn_now_after head reserve bad old new now kept = record { same_shape = kept.shape ∙ now.same_shape; fixed = kept.fixed ∙ now.fixed }
 
-module _ (head : ImageHead) (reserve bad : ℕ) (fits : IsReserve head reserve) (die : DieState) (now : IsWornNow head reserve bad die) (inner : WornMem) (tally : Tally) (over : IsSpareOver head.blocks inner tally die) where
+module _ (head : ImageHead) (reserve bad : ℕ) (fits : IsReserve head reserve) (die : DieState) (now : IsWornNow head reserve bad die) (inner : WornMem) (tally : Tally)
+    (over : IsSpareOver head.blocks inner tally die) where
   all_fixed : inner.every ∷ inner.die.shape.blocks ∷ tally.named_at_opening ∷ tally.pages_at_opening ∷ [] ≡ bad ∷ (head.blocks + reserve + 1) ∷ 0 ∷ 0 ∷ []
   all_fixed = sym (ap (λ (d : DieState). d.fixed) over.shows) ∙ now.fixed
 
@@ -326,7 +330,8 @@ same_blocks head reserve bad die now spare =
     let is : spare.logical ≡ head.blocks = ap (λ (s : Shape). s.blocks) (sym (ap (λ (d : DieState). d.shape) spare.over.shows) ∙ now.same_shape) in
     subst (λ (n : ℕ). IsSpareOver n spare.inner spare.tally die) is spare.over
 
-worn_step : (head : ImageHead) (reserve bad : ℕ) → IsReserve head reserve → (e : Event) → IsWornNow head reserve bad e.after.device.die → IsSpareDie e.after.device.die → (e.reply ≡ Fault → Rose (faults e.before.device.die) (faults e.after.device.die))
+worn_step : (head : ImageHead) (reserve bad : ℕ) → IsReserve head reserve → (e : Event) → IsWornNow head reserve bad e.after.device.die → IsSpareDie e.after.device.die
+    → (e.reply ≡ Fault → Rose (faults e.before.device.die) (faults e.after.device.die))
     → IsWornStep head reserve bad e
 worn_step head reserve bad fits e now spare rose =
     let over = same_blocks head reserve bad e.after.device.die now spare in
@@ -336,7 +341,8 @@ worn_step head reserve bad fits e now spare rose =
       never = λ none fault. never_bad head reserve bad fits e.after.device.die now spare.inner spare.tally over (faults e.before.device.die) none (rose fault);
     }
 
-worn_steps : (head : ImageHead) (reserve bad : ℕ) → IsReserve head reserve → (d : Numbers) (before : View) (events : List Event) (after : View) → IsWornNow head reserve bad before.device.die → IsPlay d before events after
+worn_steps : (head : ImageHead) (reserve bad : ℕ) → IsReserve head reserve → (d : Numbers) (before : View) (events : List Event) (after : View) → IsWornNow head reserve bad before.device.die
+    → IsPlay d before events after
     → AllByRecursion (λ e. IsSpareDie e.after.device.die) events → AllByRecursion (IsWornStep head reserve bad) events
 unfolding IsPlay
 worn_steps head reserve bad fits d before [] after now play spares = tt
@@ -346,7 +352,8 @@ worn_steps head reserve bad fits d before (e ∷ events) after now play spares =
     let next : IsWornNow head reserve bad e.after.device.die = worn_now_after head reserve bad e.before.device.die e.after.device.die here step.kept in
     (worn_step head reserve bad fits e next spares.0 step.step.cause, worn_steps head reserve bad fits d e.after events after next play.2 spares.1)
 
-pub worn_each : (head : ImageHead) (reserve bad : ℕ) → is_within_limits head ≡ true → IsReserve head reserve → (die : DieState) → IsBlankWorn head reserve bad die → (view : View) → IsPlayStart head die view
+pub worn_each : (head : ImageHead) (reserve bad : ℕ) → is_within_limits head ≡ true → IsReserve head reserve → (die : DieState) → IsBlankWorn head reserve bad die → (view : View)
+    → IsPlayStart head die view
     → (events : List Event) (after : View) → IsPlay (numbers_named head) view events after → All (λ e. IsSpareDie e.after.device.die) events → All (IsWornStep head reserve bad) events
 worn_each head reserve bad within fits die worn view start events after play spares =
     let first : IsWornNow head reserve bad die = record { same_shape = (worn_blank head reserve bad within fits die worn).same_shape; fixed = worn_fixed head reserve bad within fits die worn } in

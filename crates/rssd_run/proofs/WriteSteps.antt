@@ -218,7 +218,13 @@ write_read_fault d base old new sector bytes tried power holds w f =
         tallies = record { first = omega (arith, w.counts.first); second = omega (arith, w.counts.second); declined = omega (arith, w.counts.declined) };
       };
       true_book = λ h. holds.true_book f.running;
-      moves = (record { book = plus_book d base old.view new.view (λ rise at came. at power came) (write_book_so d old new sector (filled_up d.geometry.sector_bytes bytes) false f.running w); seq = plus_seq d base old.view new.view w.seq }, tt);
+      moves = (
+        record {
+          book = plus_book d base old.view new.view (λ rise at came. at power came) (write_book_so d old new sector (filled_up d.geometry.sector_bytes bytes) false f.running w);
+          seq = plus_seq d base old.view new.view w.seq;
+        },
+        tt,
+      );
       armed = record {
         arms = tt;
         lowers = λ a not. absurd (not refl);
@@ -235,11 +241,13 @@ write_read_fault d base old new sector bytes tried power holds w f =
     }
 
 -- what a write that was cut leaves is as before or as it was to be: over sound cells, or never where no cut is armed
-pub calm_rows : {changes reads : ℕ} {A : Type 0} (d : Numbers) (old new : DeviceValue) → Calm d old.view.die → ACutCame changes reads old.view.die new.view.die → (IsSound d.geometry old.view.die.cells → A) → A
+pub calm_rows : {changes reads : ℕ} {A : Type 0} (d : Numbers) (old new : DeviceValue) → Calm d old.view.die → ACutCame changes reads old.view.die new.view.die
+    → (IsSound d.geometry old.view.die.cells → A) → A
 calm_rows d old new (inl sound) came rows = rows sound
 calm_rows d old new (inr none) came rows = absurd (omega (arith, none, came.came.0))
 
-pub write_change_fault : (d : Numbers) (base : Tallies) (old new : DeviceValue) (sector : ℕ) (bytes : List ℕ) → Tried d old sector bytes → TellsPower old.view.die → Calm d old.view.die → Holds d old new
+pub write_change_fault : (d : Numbers) (base : Tallies) (old new : DeviceValue) (sector : ℕ) (bytes : List ℕ) → Tried d old sector bytes → TellsPower old.view.die → Calm d old.view.die
+    → Holds d old new
     → (w : WriteFault d sector (filled_up d.geometry.sector_bytes bytes) old new)
     → ChangeFault d (WithinWrite d old.view (filled_up d.geometry.sector_bytes bytes)) (written d.geometry.sector_bytes (rows_of d old.view) sector bytes) old new
     → IsStep d (event_of (Write sector bytes) Fault (on d base old) (off base new (Off (rows_of d old.view) (written d.geometry.sector_bytes (rows_of d old.view) sector bytes))))
@@ -267,7 +275,13 @@ write_change_fault d base old new sector bytes tried power calm holds w f =
         tallies = record { first = omega (arith, w.counts.first); second = omega (arith, w.counts.second); declined = omega (arith, w.counts.declined) };
       };
       true_book = λ on. absurd on;
-      moves = (record { book = plus_book d base old.view new.view (λ rise at came. at power came) (write_book_so d old new sector (filled_up d.geometry.sector_bytes bytes) true f.stopped w); seq = plus_seq d base old.view new.view w.seq }, tt);
+      moves = (
+        record {
+          book = plus_book d base old.view new.view (λ rise at came. at power came) (write_book_so d old new sector (filled_up d.geometry.sector_bytes bytes) true f.stopped w);
+          seq = plus_seq d base old.view new.view w.seq;
+        },
+        tt,
+      );
       armed = record {
         arms = tt;
         lowers = λ a not. absurd (not refl);

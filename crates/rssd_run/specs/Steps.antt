@@ -57,5 +57,6 @@ pub record MountRefused (d : Numbers) (die new : DieState) (why : MountError) : 
   pub tells : Tells new
   pub shape : new.shape ≡ die.shape
   pub keeps : KeepsDie d die new
-  pub step : (before : View) → before.device.die ≡ die → StandsFor d before → before.device.first < 2 ^ 64 → before.device.second < 2 ^ 64 → before.device.declined < 2 ^ 64 → before.device.moved < 2 ^ 64
+  pub step : (before : View) → before.device.die ≡ die → StandsFor d before → before.device.first < 2 ^ 64 → before.device.second < 2 ^ 64 → before.device.declined < 2 ^ 64
+      → before.device.moved < 2 ^ 64
       → IsStep d (record { line = Mount; reply = refusal_reply why; before = before; after = refused before new })

@@ -17,7 +17,8 @@ use Rattle.rssd_script.specs.Script.{FirstBadLine}
 use Rattle.rssd_script.specs.Scripts.{Reads, most_bytes}
 use Rattle.rssd_run.specs.declared.status.Status.{Status}
 use Rattle.rssd_run.specs.declared.status.Status.TheVariants.{Done, BadWords, BadScript, BadImage, ReadFault, WriteFault, OutOfMemory, Unsound}
-use Rattle.rssd_run.specs.Statuses.{Call, Input, Output, takes, taken, IsTakenWhole, ReadFailed, IsUntouched, Took, TookPart, TookNothing, GaveLine, WriteFailed, bad_words, too_long, bad_line, bad_image, no_spare}
+use Rattle.rssd_run.specs.Statuses.{Call, Input, Output, takes, taken, IsTakenWhole, ReadFailed, IsUntouched, Took, TookPart, TookNothing, GaveLine, WriteFailed, bad_words, too_long, bad_line}
+use Rattle.rssd_run.specs.Statuses.{bad_image, no_spare}
 use Rattle.rssd_run.specs.ReadScript.{ReadsAll, TakesScript}
 use Rattle.rssd_run.specs.ReadImage.{ReadsImage, TakesImage, IsNoImageFor}
 use Rattle.rssd_run.specs.GiveImage.{image_pieces}

@@ -1,5 +1,6 @@
 -- Texts cut into lines.
-use Rattle.std.proofs.Common.{◌≡◌, ℕ, ◌+◌, ◌-◌, ◌/◌, ◌%◌, ◌^◌, ◌<◌, ◌≤◌, List, [], ◌∷◌, ◌++◌, length, map, get_or, Bool, true, false, true≢false, eq-eqb, cond, eqb, refl, sym, ap, ◌∙◌, arith, decimal, codes, append_assoc, suc, zero}
+use Rattle.std.proofs.Common.{◌≡◌, ℕ, ◌+◌, ◌-◌, ◌/◌, ◌%◌, ◌^◌, ◌<◌, ◌≤◌, List, [], ◌∷◌, ◌++◌, length, map, get_or, Bool, true, false, true≢false, eq-eqb, cond, eqb, refl, sym, ap, ◌∙◌, arith}
+use Rattle.std.proofs.Common.{decimal, codes, append_assoc, suc, zero}
 use Rattle.std.proofs.lemmas.Bool.{ne_eqb}
 use Rattle.std.proofs.lemmas.List.{length-append, length-map, get_or_append_left, get_or-map, get_or_at, append-nil}
 use Rattle.std.proofs.lemmas.List.Concat.{flat_map-append}
@@ -162,7 +163,14 @@ spelled (line ∷ lines) w = ((w.0, refl), spelled lines w.1)
 module _ (text : List ℕ) (lines : List Line) (bad : List ℕ) (others : List (List ℕ)) (w : AllByRecursion IsWithinGrammar lines) (e : text_lines text ≡ map line_text lines ++ bad ∷ others) where
   pub first_bad : SpellsNone bad → FirstBadLine text (length lines + 1)
   first_bad none = record {
-    before = λ i h. (get_or lines i Mount, (within lines w i (omega arith), rw e (get_or_append_left (map line_text lines) (bad ∷ others) [] i (rw length-map (omega arith)) ∙ get_or-map line_text lines i Mount [] (omega arith))));
+    before =
+        λ i h. (
+          get_or lines i Mount,
+          (
+            within lines w i (omega arith),
+            rw e (get_or_append_left (map line_text lines) (bad ∷ others) [] i (rw length-map (omega arith)) ∙ get_or-map line_text lines i Mount [] (omega arith)),
+          ),
+        );
     within = (omega arith, rw (e, length-append, length-map) (omega arith));
     bad = λ line s. none line (s.0, sym at ∙ s.1);
   }
@@ -207,7 +215,8 @@ module _ (text : List ℕ) (lines : List Line) (rest : List ℕ) (w : Whole text
   -- the line is whole and bad
   pub broken_line : (front back : List ℕ) → Lacks 10 front → SpellsNone (rest ++ front) → Broken (text ++ (front ++ 10 ∷ back)) (length lines + 1)
   broken_line front back l none more =
-      first_bad _ lines (rest ++ front) (text_lines (back ++ more)) w.within (ap text_lines e ∙ text_lines-whole lines _ w.within ∙ ap (λ t. map line_text lines ++ t) (text_lines-cut (rest ++ front) (back ++ more) (Lacks-append 10 rest front w.no_feed l))) none
+      first_bad _ lines (rest ++ front) (text_lines (back ++ more)) w.within
+      (ap text_lines e ∙ text_lines-whole lines _ w.within ∙ ap (λ t. map line_text lines ++ t) (text_lines-cut (rest ++ front) (back ++ more) (Lacks-append 10 rest front w.no_feed l))) none
     where
       e : (text ++ (front ++ 10 ∷ back)) ++ more ≡ script_text lines ++ ((rest ++ front) ++ 10 ∷ (back ++ more))
       e = append_assoc text (front ++ 10 ∷ back) more ∙ (λ i. w.is i ++ (append_assoc front (10 ∷ back) more i)) ∙ append_assoc (script_text lines) rest (front ++ 10 ∷ (back ++ more))
@@ -217,10 +226,13 @@ module _ (text : List ℕ) (lines : List Line) (rest : List ℕ) (w : Whole text
   pub broken_long : (piece : List ℕ) → Lacks 10 piece → 1048 < length (rest ++ piece) → Broken (text ++ piece) (length lines + 1)
   broken_long piece l long more =
       let f = text_lines-front (rest ++ piece) more (Lacks-append 10 rest piece w.no_feed l) (omega arith) in
-      first_bad _ lines ((rest ++ piece) ++ f.back) f.others w.within (ap text_lines e ∙ text_lines-whole lines _ w.within ∙ ap (λ t. map line_text lines ++ t) f.is) (long_spells_none _ (rw length-append (omega arith)))
+      first_bad _ lines ((rest ++ piece) ++ f.back) f.others w.within (ap text_lines e ∙ text_lines-whole lines _ w.within ∙ ap (λ t. map line_text lines ++ t) f.is)
+      (long_spells_none _ (rw length-append (omega arith)))
     where
       e : (text ++ piece) ++ more ≡ script_text lines ++ ((rest ++ piece) ++ more)
-      e = append_assoc text piece more ∙ (λ i. w.is i ++ (piece ++ more)) ∙ append_assoc (script_text lines) rest (piece ++ more) ∙ ap (λ t. script_text lines ++ t) (sym (append_assoc rest piece more))
+      e =
+          append_assoc text piece more ∙ (λ i. w.is i ++ (piece ++ more)) ∙ append_assoc (script_text lines) rest (piece ++ more)
+          ∙ ap (λ t. script_text lines ++ t) (sym (append_assoc rest piece more))
 
   -- the end after a line feed, or of the empty text
   pub end_whole : rest ≡ [] → IsScript text lines

@@ -40,7 +40,8 @@ module _ (text so_far left piece : List ℕ) (old : List Line) (rest : List ℕ)
     pub whole_at : (begun : List ℕ) → Adds old now (rest ++ front) → begun ≡ [] → Whole (so_far ++ (front ++ 10 ∷ [])) now begun
     whole_at begun a n = rw n (whole_line so_far old rest w now front a)
 
-  pub end_piece : (b : Bool) (begun : List ℕ) → Lacks 10 left → (b ≡ true → begun ≡ rest ++ left) → (b ≡ false → 1048 < length (rest ++ left)) → MatchBool b (Whole (text ++ piece) old begun) (Broken (text ++ piece) (length old + 1))
+  pub end_piece : (b : Bool) (begun : List ℕ) → Lacks 10 left → (b ≡ true → begun ≡ rest ++ left) → (b ≡ false → 1048 < length (rest ++ left))
+      → MatchBool b (Whole (text ++ piece) old begun) (Broken (text ++ piece) (length old + 1))
   end_piece true begun l is long = rw (← s, is refl) (whole_more so_far old rest w left l)
   end_piece false begun l is long = λ more. rw (← s) (broken_long so_far old rest w left l (long refl) more)
 

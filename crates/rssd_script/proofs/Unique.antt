@@ -69,7 +69,9 @@ one_line (Read m) (Read n) v w e = ap Read (number_is m n v w (ap (drop 5) e))
 one_line (Trim m) (Trim n) v w e = ap Trim (number_is m n v w (ap (drop 5) e))
 one_line (Idle m) (Idle n) v w e = ap Idle (number_is m n v w (ap (drop 5) e))
 one_line (Cut m s) (Cut n t) v w e =
-    let r = one_cut 32 (decimal m) (decimal n) (torn_text s) (torn_text t) (Lacks-decimal 32 m (omega arith) (omega (arith, v.0.1))) (Lacks-decimal 32 n (omega arith) (omega (arith, w.0.1))) (ap (drop 4) e) in
+    let r =
+    one_cut 32 (decimal m) (decimal n) (torn_text s) (torn_text t) (Lacks-decimal 32 m (omega arith) (omega (arith, v.0.1))) (Lacks-decimal 32 n (omega arith) (omega (arith, w.0.1)))
+    (ap (drop 4) e) in
     let n' = number_is m n (omega (arith, v.0.1)) (omega (arith, w.0.1)) r.0 in
     let t' = same_torn s t v.1 w.1 r.1 in
     λ i. Cut (n' i) (t' i)
@@ -129,7 +131,8 @@ printed lines w h = (h, end_whole (script_text lines) lines [] (record { within 
 
 -- what else follows from the answer
 module _ {V : Type 0} (items : V → List Line) (text : List ℕ) where
-  pub lines_only : (r : Result V ScriptError) → MatchResult r (λ v. Reads text (items v)) (Refuses text) → (lines : List Line) → Reads text lines → MatchResult r (λ v. items v ≡ lines) (λ e. e ≡ OutOfMemory)
+  pub lines_only : (r : Result V ScriptError) → MatchResult r (λ v. Reads text (items v)) (Refuses text) → (lines : List Line) → Reads text lines
+      → MatchResult r (λ v. items v ≡ lines) (λ e. e ≡ OutOfMemory)
   lines_only (Ok v) a lines is = one_script text (items v) lines a.1 is.1
   lines_only (Err TooLong) a lines is = absurd (omega (arith, a, is.0))
   lines_only (Err (BadLine k)) a lines is = absurd (no_bad text lines k is.1 a.1)
@@ -139,7 +142,8 @@ module _ {V : Type 0} (items : V → List Line) (text : List ℕ) where
   within (Ok v) a = lines_within text (items v) a
   within (Err e) a = tt
 
-  pub bad_only : (r : Result V ScriptError) → MatchResult r (λ v. Reads text (items v)) (Refuses text) → (k : ℕ) → Refuses text (BadLine k) → MatchResult r (λ _. ⊥) (λ e. (e ≡ BadLine k) ⊎ (e ≡ OutOfMemory))
+  pub bad_only : (r : Result V ScriptError) → MatchResult r (λ v. Reads text (items v)) (Refuses text) → (k : ℕ) → Refuses text (BadLine k)
+      → MatchResult r (λ _. ⊥) (λ e. (e ≡ BadLine k) ⊎ (e ≡ OutOfMemory))
   bad_only (Ok v) a k is = no_bad text (items v) k a.1 is.1
   bad_only (Err TooLong) a k is = absurd (omega (arith, a, is.0))
   bad_only (Err (BadLine j)) a k is = inl (ap BadLine (one_bad text j k a.1 is.1))

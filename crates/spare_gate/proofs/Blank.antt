@@ -1,5 +1,6 @@
 -- A blank slot takes a header by charging cells alone, and what happens in one slot leaves the blankness of the others.
-use Rattle.std.proofs.Common.{◌≡◌, ◌≢◌, ◌⊎◌, inl, inr, ℕ, zero, suc, ◌+◌, ◌-◌, ◌*◌, ◌/◌, ◌%◌, ◌<◌, ◌≤◌, true, List, [], ◌∷◌, length, drop, ◌&&◌, ◌==◌, slice_index, refl, sym, ap, ap₂, ◌∙◌, arith, get_or-take, get_or-drop}
+use Rattle.std.proofs.Common.{◌≡◌, ◌≢◌, ◌⊎◌, inl, inr, ℕ, zero, suc, ◌+◌, ◌-◌, ◌*◌, ◌/◌, ◌%◌, ◌<◌, ◌≤◌, true, List, [], ◌∷◌, length, drop, ◌&&◌, ◌==◌, slice_index, refl, sym, ap, ap₂, ◌∙◌, arith}
+use Rattle.std.proofs.Common.{get_or-take, get_or-drop}
 use Rattle.std.specs.Int.{bit_at}
 use Rattle.std.proofs.lemmas.Bool.{cases_lt, and_parts, eqb-true}
 use Rattle.std.proofs.lemmas.Nat.Bits.{bit_at-zero}
@@ -39,7 +40,8 @@ header_above spare slot h room blank = record { same_length = header_long spare 
         omega arith
 
 -- a header leaves the blankness of every other slot
-pub header_keeps_blank : (spare : List ℕ) (slot : ℕ) (h : Header) (other : ℕ) → 16 * slot + 16 ≤ length spare → other ≢ slot → is_slot_blank (with_header spare slot h) other ≡ is_slot_blank spare other
+pub header_keeps_blank : (spare : List ℕ) (slot : ℕ) (h : Header) (other : ℕ) → 16 * slot + 16 ≤ length spare → other ≢ slot
+    → is_slot_blank (with_header spare slot h) other ≡ is_slot_blank spare other
 header_keeps_blank spare slot h other room apart =
     ap₂ (λ (byte : ℕ) (word : List ℕ). byte == 0 && is_blank word) (header_byte spare slot h (16 * other) room (outside (cases_lt other (slot + 1)))) (header_words spare slot h other room apart)
   where

@@ -1,5 +1,6 @@
 -- What the word of a header in a slot does to the other bytes of a spare area.
-use Rattle.std.proofs.Common.{◌≡◌, ◌≢◌, ◌⊎◌, inl, inr, ℕ, ◌+◌, ◌-◌, ◌*◌, ◌/◌, ◌%◌, ◌<◌, ◌≤◌, true, List, length, take, drop, ◌++◌, get_or, ◌==◌, slice_index, refl, sym, ap, ap₂, ◌∙◌, arith, length-take, length-drop, get_or-take, get_or-drop}
+use Rattle.std.proofs.Common.{◌≡◌, ◌≢◌, ◌⊎◌, inl, inr, ℕ, ◌+◌, ◌-◌, ◌*◌, ◌/◌, ◌%◌, ◌<◌, ◌≤◌, true, List, length, take, drop, ◌++◌, get_or, ◌==◌, slice_index, refl, sym, ap, ap₂, ◌∙◌, arith}
+use Rattle.std.proofs.Common.{length-take, length-drop, get_or-take, get_or-drop}
 use Rattle.std.specs.Int.{bit_at}
 use Rattle.std.proofs.lemmas.Bool.{cases_lt}
 use Rattle.std.proofs.lemmas.List.{ext_get_or, take_at, drop_at, length-append, append_assoc, get_or_append_left, get_or-append_right, drop-drop}
@@ -32,14 +33,16 @@ header_long spare slot h room = omega (
 -- writing the word over the bytes of its place
 pub put_word : (spare word : List ℕ) (slot k : ℕ) (h : Header) → k ≡ 14 → word ≡ spelling h → put_mid (16 * slot + 1) k spare word ≡ with_header spare slot h
 put_word spare word slot k h few e =
-    ap₂ (λ (bytes rest : List ℕ). take (16 * slot + 1) spare ++ (bytes ++ rest)) e (ap (λ (n : ℕ). drop n (drop (16 * slot + 1) spare)) few ∙ (drop-drop 14 (16 * slot + 1) spare ∙ ap (λ (n : ℕ). drop n spare) past))
+    ap₂ (λ (bytes rest : List ℕ). take (16 * slot + 1) spare ++ (bytes ++ rest)) e
+    (ap (λ (n : ℕ). drop n (drop (16 * slot + 1) spare)) few ∙ (drop-drop 14 (16 * slot + 1) spare ∙ ap (λ (n : ℕ). drop n spare) past))
     ∙ sym (append_assoc (take (16 * slot + 1) spare) (spelling h) (drop (16 * slot + 15) spare))
   where
     past : 16 * slot + 1 + 14 ≡ 16 * slot + 15
     past = omega arith
 
 -- the bytes before and after the word
-pub header_byte : (spare : List ℕ) (slot : ℕ) (h : Header) (k : ℕ) → 16 * slot + 16 ≤ length spare → (k < 16 * slot + 1) ⊎ (16 * slot + 15 ≤ k) → slice_index (with_header spare slot h) k ≡ slice_index spare k
+pub header_byte : (spare : List ℕ) (slot : ℕ) (h : Header) (k : ℕ) → 16 * slot + 16 ≤ length spare → (k < 16 * slot + 1) ⊎ (16 * slot + 15 ≤ k)
+    → slice_index (with_header spare slot h) k ≡ slice_index spare k
 header_byte spare slot h k room (inl before) =
     get_or_append_left (take (16 * slot + 1) spare ++ spelling h) (drop (16 * slot + 15) spare) 0 k (omega (arith, both_long spare slot h room))
     ∙ (get_or_append_left (take (16 * slot + 1) spare) (spelling h) 0 k (omega (arith, front_long spare slot room))
@@ -81,7 +84,8 @@ word_ext x y slot same bytes = ext_get_or 0 _ _ lengths (λ i h. byte i (short i
 
 -- the words of the other slots
 pub header_words : (spare : List ℕ) (slot : ℕ) (h : Header) (other : ℕ) → 16 * slot + 16 ≤ length spare → other ≢ slot → word_at (with_header spare slot h) other ≡ word_at spare other
-header_words spare slot h other room apart = word_ext (with_header spare slot h) spare other (header_long spare slot h room) (λ i few. header_byte spare slot h (16 * other + 1 + i) room (outside i few (cases_lt other slot)))
+header_words spare slot h other room apart =
+    word_ext (with_header spare slot h) spare other (header_long spare slot h room) (λ i few. header_byte spare slot h (16 * other + 1 + i) room (outside i few (cases_lt other slot)))
   where
     outside : (i : ℕ) → i < 14 → (other < slot) ⊎ (slot ≤ other) → (16 * other + 1 + i < 16 * slot + 1) ⊎ (16 * slot + 15 ≤ 16 * other + 1 + i)
     outside i few (inl less) = inl (omega arith)

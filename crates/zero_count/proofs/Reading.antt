@@ -29,7 +29,8 @@ take_4 (a ∷ b ∷ c ∷ []) h = absurd (omega arith)
 take_8 : (xs : List ℕ) → 8 ≤ length xs → take 8 xs ≡ take 4 xs ++ take 4 (drop 4 xs)
 take_8 xs h = take-add 4 4 xs
 
-pub take_8_4 : (xs : List ℕ) → 12 ≤ length xs → take 8 (drop 4 xs) ≡ slice_index xs 4 ∷ slice_index xs 5 ∷ slice_index xs 6 ∷ slice_index xs 7 ∷ slice_index xs 8 ∷ slice_index xs 9 ∷ slice_index xs 10 ∷ slice_index xs 11 ∷ []
+pub take_8_4 : (xs : List ℕ) → 12 ≤ length xs
+    → take 8 (drop 4 xs) ≡ slice_index xs 4 ∷ slice_index xs 5 ∷ slice_index xs 6 ∷ slice_index xs 7 ∷ slice_index xs 8 ∷ slice_index xs 9 ∷ slice_index xs 10 ∷ slice_index xs 11 ∷ []
 take_8_4 xs h =
     take_8 (drop 4 xs) (omega (arith, length-drop 4 xs))
     ∙ (ap₂ (λ (a b : List ℕ). a ++ b) (take_4 (drop 4 xs) (omega (arith, length-drop 4 xs))) (ap (take 4) (drop-drop 4 4 xs) ∙ take_4 (drop 8 xs) (omega (arith, length-drop 8 xs)))

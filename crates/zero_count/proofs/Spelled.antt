@@ -1,5 +1,6 @@
 -- The word of a header is valid and spells that header, and a valid word is the word of the header that it spells.
-use Rattle.std.proofs.Common.{◌≡◌, ℕ, zero, suc, ◌+◌, ◌-◌, ◌*◌, ◌<◌, ◌≤◌, List, [], ◌∷◌, ◌++◌, take, drop, slice_index, length, nat_lt, Bool, true, false, if◌then◌else◌, Some, None, refl, sym, ap, ap₂, ◌∙◌, arith, eq-eqb, subst, get_or, ◌^◌, length-take, length-drop}
+use Rattle.std.proofs.Common.{◌≡◌, ℕ, zero, suc, ◌+◌, ◌-◌, ◌*◌, ◌<◌, ◌≤◌, List, [], ◌∷◌, ◌++◌, take, drop, slice_index, length, nat_lt, Bool, true, false, if◌then◌else◌, Some, None, refl, sym}
+use Rattle.std.proofs.Common.{ap, ap₂, ◌∙◌, arith, eq-eqb, subst, get_or, ◌^◌, length-take, length-drop}
 use lib.Count.{ones}
 use Rattle.std.specs.Int.{w32, w64, to_le_bytes, from_le_bytes, bytes_low_first, byte_at}
 use Rattle.std.proofs.lemmas.Bool.{and_from, and_parts, lt-ltb, le-leb, cond-true}
@@ -42,7 +43,8 @@ spelled_valid h f =
     let last_small : zero_bits (fields h) < 256 = omega (arith, few_zeros (fields h)) in
     and_from _ _ (and_from _ _ (and_from _ _ (and_from _ _ refl
     (append_small (fields h) (zero_bits (fields h) ∷ [])
-    (append_small (to_le_bytes w32 h.sector ++ to_le_bytes w64 h.seq) (h.kind ∷ []) (append_small (to_le_bytes w32 h.sector) (to_le_bytes w64 h.seq) (bytes_small 0 4 h.sector) (bytes_small 0 8 h.seq)) (one_small h.kind kind_small))
+    (append_small (to_le_bytes w32 h.sector ++ to_le_bytes w64 h.seq) (h.kind ∷ [])
+    (append_small (to_le_bytes w32 h.sector) (to_le_bytes w64 h.seq) (bytes_small 0 4 h.sector) (bytes_small 0 8 h.seq)) (one_small h.kind kind_small))
     (one_small (zero_bits (fields h)) last_small)))
     (eq-eqb _ _ refl)) (le-leb 1 h.kind f.least_kind)) (le-leb h.kind 4 f.greatest_kind)
 

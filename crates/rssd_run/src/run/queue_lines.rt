@@ -37,7 +37,8 @@ fn serve_next<S: Serving, O: Sink>(
     ensures queue_of { IsQueueOf queue.new (S.session session.new).holding }
     ensures ok { OnOk result ((d : Numbers) → HasNumbers d (S.session session.old).holding → (lines : List Spelled) (tag : ℕ) → IsServeDue (is_running (S.session session.old).holding) queue.old lines
         → ActsSession d (place lines tag queue.old) (S.session session.old) (place lines tag queue.new) (S.session session.new) (O.log out.old) (O.log out.new)) }
-    ensures err { OnErr result ((d : Numbers) → HasNumbers d (S.session session.old).holding → (lines : List Spelled) (tag : ℕ) → IsServeDue (is_running (S.session session.old).holding) queue.old lines
+    ensures err { OnErr result ((d : Numbers) → HasNumbers d (S.session session.old).holding → (lines : List Spelled) (tag : ℕ)
+        → IsServeDue (is_running (S.session session.old).holding) queue.old lines
         → CutsOffActs d (place lines tag queue.old) (S.session session.old) (S.session session.new) (O.log out.old) (O.log out.new)) }
     ensures one { IfOk result (λ one. TookOne one queue.old queue.new) }
 {
@@ -110,9 +111,11 @@ fn answer_at_once<S: Serving, O: Sink>(
 ) -> Result<(), WriteFault>
     requires { CanStep line.now }
     ensures numbers { (d : Numbers) → HasNumbers d (S.session session.old).holding → HasNumbers d (S.session session.new).holding }
-    ensures ok { OnOk result ((d : Numbers) → HasNumbers d (S.session session.old).holding → (lines : List Spelled) (queue : Waiting) → IsAtOnceDue (is_running (S.session session.old).holding) queue line.now
+    ensures ok { OnOk result ((d : Numbers) → HasNumbers d (S.session session.old).holding → (lines : List Spelled) (queue : Waiting)
+        → IsAtOnceDue (is_running (S.session session.old).holding) queue line.now
         → ActsSession d (place (line.now ∷ lines) tag queue) (S.session session.old) (place lines (tag + 1) queue) (S.session session.new) (O.log out.old) (O.log out.new)) }
-    ensures err { OnErr result ((d : Numbers) → HasNumbers d (S.session session.old).holding → (lines : List Spelled) (queue : Waiting) → IsAtOnceDue (is_running (S.session session.old).holding) queue line.now
+    ensures err { OnErr result ((d : Numbers) → HasNumbers d (S.session session.old).holding → (lines : List Spelled) (queue : Waiting)
+        → IsAtOnceDue (is_running (S.session session.old).holding) queue line.now
         → CutsOffActs d (place (line.now ∷ lines) tag queue) (S.session session.old) (S.session session.new) (O.log out.old) (O.log out.new)) }
 {
     let mut reply = Reply::Off;

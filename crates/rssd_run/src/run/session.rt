@@ -124,7 +124,8 @@ impl<D: PowerDie + Drop, C: Scheme + Drop, F: PowerDevice<D, C>> Session<D, C, F
         ensures numbers { (d : Numbers) → HasNumbers d (session_of D.state C.meaning F.device self.old).holding → HasNumbers d (session_of D.state C.meaning F.device self.new).holding }
         ensures step { (d : Numbers) → HasNumbers d (session_of D.state C.meaning F.device self.old).holding
             → StepsSession d line.now reply.new (session_of D.state C.meaning F.device self.old) (session_of D.state C.meaning F.device self.new) }
-        ensures answers { (d : Numbers) → HasNumbers d (session_of D.state C.meaning F.device self.old).holding → AnswersSession d line.now reply.new (session_of D.state C.meaning F.device self.old) (session_of D.state C.meaning F.device self.new) }
+        ensures answers { (d : Numbers) → HasNumbers d (session_of D.state C.meaning F.device self.old).holding
+            → AnswersSession d line.now reply.new (session_of D.state C.meaning F.device self.old) (session_of D.state C.meaning F.device self.new) }
     {
         let Some(ftl) = &mut self.mounted else {
             *reply = Reply::Off;
@@ -171,7 +172,8 @@ impl<D: PowerDie + Drop, C: Scheme + Drop, F: PowerDevice<D, C>> Session<D, C, F
     fn stat(&self) -> Reply
         ensures step { (d : Numbers) → HasNumbers d (session_of D.state C.meaning F.device self.now).holding
             → StepsSession d Line.Stat result (session_of D.state C.meaning F.device self.now) (session_of D.state C.meaning F.device self.now) }
-        ensures answers { (d : Numbers) → HasNumbers d (session_of D.state C.meaning F.device self.now).holding → AnswersSession d Line.Stat result (session_of D.state C.meaning F.device self.now) (session_of D.state C.meaning F.device self.now) }
+        ensures answers { (d : Numbers) → HasNumbers d (session_of D.state C.meaning F.device self.now).holding
+            → AnswersSession d Line.Stat result (session_of D.state C.meaning F.device self.now) (session_of D.state C.meaning F.device self.now) }
     {
         match &self.mounted {
             Some(ftl) => stat_reply(added(self.base, ftl.counts()), ftl.erased()),
@@ -187,7 +189,8 @@ impl<D: PowerDie + Drop, C: Scheme + Drop, F: PowerDevice<D, C>> Session<D, C, F
         ensures numbers { (d : Numbers) → HasNumbers d (session_of D.state C.meaning F.device self.old).holding → HasNumbers d (session_of D.state C.meaning F.device self.new).holding }
         ensures step { (d : Numbers) → HasNumbers d (session_of D.state C.meaning F.device self.old).holding
             → StepsSession d Line.Mount result (session_of D.state C.meaning F.device self.old) (session_of D.state C.meaning F.device self.new) }
-        ensures answers { (d : Numbers) → HasNumbers d (session_of D.state C.meaning F.device self.old).holding → AnswersSession d Line.Mount result (session_of D.state C.meaning F.device self.old) (session_of D.state C.meaning F.device self.new) }
+        ensures answers { (d : Numbers) → HasNumbers d (session_of D.state C.meaning F.device self.old).holding
+            → AnswersSession d Line.Mount result (session_of D.state C.meaning F.device self.old) (session_of D.state C.meaning F.device self.new) }
     {
         let (die, scheme) = close_held(&mut self.mounted, &mut self.closed, &mut self.base);
         match mount_again(alloc, die, scheme, self.plan) {

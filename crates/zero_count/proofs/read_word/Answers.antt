@@ -6,7 +6,8 @@ use Rattle.zero_count.specs.HeaderWord.{header_of, is_valid}
 use Rattle.zero_count.proofs.ValidWords.{IsValidWord}
 use Rattle.zero_count.proofs.Reading.{bytes_from_each, valid_from_parts, none_unless, take_4, take_8_4}
 use Rattle.zero_count.proofs.read_word.Goals as goal
-use Rattle.zero_count.proofs.read_word.Goals.{then-zeros_of-from-via-then-zeros_of-from, then-zeros_of-from-via-else-zeros_of-from+then-kind-lt1, then-zeros_of-from-via-else-zeros_of-from+else-kind-lt1+then-kind-gt4}
+use Rattle.zero_count.proofs.read_word.Goals.{then-zeros_of-from-via-then-zeros_of-from, then-zeros_of-from-via-else-zeros_of-from+then-kind-lt1}
+use Rattle.zero_count.proofs.read_word.Goals.{then-zeros_of-from-via-else-zeros_of-from+else-kind-lt1+then-kind-gt4}
 
 pub returns-then-zeros_of-from : goal.returns-then-zeros_of-from
 returns-then-zeros_of-from c = none_unless c.args.word.now (λ e. elim c.then-zeros_of-from.branch [

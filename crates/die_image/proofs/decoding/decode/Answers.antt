@@ -12,4 +12,5 @@ returns-clause-found c = is_found c.args.bytes.now c.read_all.result (λ i. omeg
 
 pub returns-clause-only : goal.returns-clause-only
 returns-clause-only c = λ head cells are e.
-    subst (λ (read : Result (ImageHead × List ℕ) ImageError). Gives (λ read. (read.0, read.1.items)) c.read_all.result read) (ap (image_read false) e ∙ image_again head cells are) (rw c.new.ensures at c.read_all.ensures)
+    subst (λ (read : Result (ImageHead × List ℕ) ImageError). Gives (λ read. (read.0, read.1.items)) c.read_all.result read) (ap (image_read false) e ∙ image_again head cells are)
+    (rw c.new.ensures at c.read_all.ensures)

@@ -45,5 +45,7 @@ returns c =
     let i = c.self.invariant in
     let room : c.self.inside.taken < 128 = (stored_more _ _ _ _ _ i c.args.column c.args.tag _ _ _ r t.in_range t.set t.highest).0 in
     let n = not_spanned c.self.inside.rows.items c.self.inside.sets.items _ i.basis c.args.column _ _ r (omega arith) in
-    let more = family_more c.self.inside.columns.items c.self.inside.tags.items c.self.inside.taken c.args.column c.args.tag c.args.self.now c.self.view_is (omega (arith, i.columns_len)) (omega (arith, i.tags_len)) in
+    let more =
+    family_more c.self.inside.columns.items c.self.inside.tags.items c.self.inside.taken c.args.column c.args.tag c.args.self.now c.self.view_is (omega (arith, i.columns_len))
+    (omega (arith, i.tags_len)) in
     (subst (λ (f : Family). ¬ (IsSpanned f.columns c.args.column)) c.self.view_is n, more.0, more.1)

@@ -28,7 +28,8 @@ returns c =
     let word = c.args.word.now in
     let bytes : AreBytes word = λ k. omega (arith, c.type_inv.word k) in
     let kind_is : c.max-kind.result ≡ max (slice_index word 12) 1 = c.max-kind.ensures in
-    let last_is : c.from.result ≡ least_above (slice_index word 13) (8 - ones (max (slice_index word 12) 1)) = c.from.ensures ∙ (c.least_above-last.ensures ∙ ap (λ (n : ℕ). least_above (slice_index word 13) (8 - ones n)) kind_is) in
+    let last_is : c.from.result ≡ least_above (slice_index word 13) (8 - ones (max (slice_index word 12) 1)) =
+    c.from.ensures ∙ (c.least_above-last.ensures ∙ ap (λ (n : ℕ). least_above (slice_index word 13) (8 - ones n)) kind_is) in
     let ones_are : c.from-2.result ≡ ones (max (slice_index word 12) 1) = c.from-2.ensures ∙ ap ones kind_is in
     let rest_is : c.charged.result ≡ ones_before_kind word = c.charged.ensures in (
       λ t. valid_from_ending word c.requires bytes (ending_from_least word (omega arith) (omega (arith, leb-true _ _ t))),

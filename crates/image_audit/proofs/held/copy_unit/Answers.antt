@@ -11,5 +11,6 @@ returns-else-geometry-eq1 c =
     let some = c.geometry.invariant.some_span in
     let few = c.geometry.invariant.small_span in
     let two : g.span ≡ 2 = omega (arith, ap (λ (h : Geometry). h.span) c.geometry.view_is, some, few, c.if-geometry-eq1.false) in
-    ap₂ (λ (xs ys : List ℕ). xs ++ ys) (c.copy_from_slice-else-geometry-eq1.ensures.after ∙ c.main-else-geometry-eq1.ensures.main) (c.copy_from_slice-else-geometry-eq1-2.ensures.after ∙ c.main-else-geometry-eq1-2.ensures.main)
+    ap₂ (λ (xs ys : List ℕ). xs ++ ys) (c.copy_from_slice-else-geometry-eq1.ensures.after ∙ c.main-else-geometry-eq1.ensures.main)
+    (c.copy_from_slice-else-geometry-eq1-2.ensures.after ∙ c.main-else-geometry-eq1-2.ensures.main)
     ∙ sym (unit_of_two g (pages_in g c.args.cells.now) c.args.page two)

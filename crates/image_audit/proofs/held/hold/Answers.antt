@@ -16,6 +16,8 @@ loop-mark-preserved g c =
     let decoding = (g.C.Scheme.meaning c.args.scheme.now).decoding in
     let cells = pages_in geometry c.args.cells.now in
     record {
-      told = told_more geometry decoding cells c.args.live.now c.loop-mark.mark-index no_mark c.loop-mark.held.items c.push.new.self.items c.in_ok-hold_one.field-0 c.loop-mark-test.true c.in_ok-hold_one.ensures.told c.in_ok-push.ensures.items c.loop-mark.invariant.told;
+      told =
+          told_more geometry decoding cells c.args.live.now c.loop-mark.mark-index no_mark c.loop-mark.held.items c.push.new.self.items c.in_ok-hold_one.field-0 c.loop-mark-test.true
+          c.in_ok-hold_one.ensures.told c.in_ok-push.ensures.items c.loop-mark.invariant.told;
       whole = All-more (IsWhole geometry decoding cells) c.args.live.now c.loop-mark.mark-index no_mark c.loop-mark-test.true c.loop-mark.invariant.whole c.in_ok-hold_one.ensures.whole;
     }

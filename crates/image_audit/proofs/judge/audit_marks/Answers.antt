@@ -34,7 +34,8 @@ returns-in-Sound g c =
     let bytes : AreBytes c.args.cells.now = λ k. omega (arith, c.type_inv.cells k) in
     let shape : HasShape (shape_of geometry) cells = shaped geometry c.args.cells.now c.requires.long bytes in
     let says : MarksSay geometry c.args.marks.now c.in_ok-live.live.items Sound =
-    subst (MarksSay geometry c.args.marks.now c.in_ok-live.live.items) c.in-Sound.is (subst (λ (live : List Mark). MarksSay geometry c.args.marks.now live c.in_ok-verdict.verdict) c.deref.ensures.value c.in_ok-verdict.ensures) in
+    subst (MarksSay geometry c.args.marks.now c.in_ok-live.live.items) c.in-Sound.is
+    (subst (λ (live : List Mark). MarksSay geometry c.args.marks.now live c.in_ok-verdict.verdict) c.deref.ensures.value c.in_ok-verdict.ensures) in
     sound_audit geometry decoding cells c.args.marks.now c.in_ok-live.live.items (map told_of c.in_ok-hold-in-Sound.field-0.items) shape c.requires.read c.in_ok-live.ensures says
     (c.in_ok-hold-in-Sound.ensures.told ∙ ap (map (told_by geometry decoding cells)) c.deref-in-Sound.ensures.value)
     (subst (All (IsWhole geometry decoding cells)) c.deref-in-Sound.ensures.value c.in_ok-hold-in-Sound.ensures.whole)
@@ -49,4 +50,5 @@ returns g c =
     let says : MarksSay geometry c.args.marks.now c.in_ok-live.live.items c.in_ok-verdict.verdict =
     subst (λ (live : List Mark). MarksSay geometry c.args.marks.now live c.in_ok-verdict.verdict) c.deref.ensures.value c.in_ok-verdict.ensures in
     subst (λ (told : List Held). IsAudit geometry decoding cells c.in_ok-verdict.verdict (map told_of told)) (sym c.new.ensures.items)
-    (unsound_audit geometry decoding cells c.in_ok-verdict.verdict (verdict_is geometry cells c.args.marks.now c.in_ok-live.live.items shape c.requires.read c.in_ok-live.ensures c.in_ok-verdict.verdict says) c.in_default.not-Sound)
+    (unsound_audit geometry decoding cells c.in_ok-verdict.verdict
+    (verdict_is geometry cells c.args.marks.now c.in_ok-live.live.items shape c.requires.read c.in_ok-live.ensures c.in_ok-verdict.verdict says) c.in_default.not-Sound)

@@ -16,6 +16,7 @@ loop-mark-init c = knows_nothing c.new-live.result c.new-live.ensures.empty c.ne
 pub returns : goal.returns
 returns c =
     let all : take c.loop-mark.mark-index c.args.marks.now ≡ c.args.marks.now = take_all c.loop-mark.mark-index c.args.marks.now (omega arith) in
-    let live : AreLive c.args.marks.now (values c.loop-mark.live) = live_from_known c.args.marks.now c.loop-mark.live (subst (λ (marks : List Mark). Knows marks c.loop-mark.live) all c.loop-mark.invariant) in
+    let live : AreLive c.args.marks.now (values c.loop-mark.live) =
+    live_from_known c.args.marks.now c.loop-mark.live (subst (λ (marks : List Mark). Knows marks c.loop-mark.live) all c.loop-mark.invariant) in
     IfOk-weaker c.values_of.result (λ (list : Vec Mark Global). list.items ≡ values c.loop-mark.live) (λ (list : Vec Mark Global). AreLive c.args.marks.now list.items)
     (λ list e. subst (AreLive c.args.marks.now) (sym e) live) c.values_of.ensures

@@ -6,7 +6,8 @@ use Rattle.image_audit.proofs.live.note.Goals.{else-mark-via-then-mark+else-take
 
 pub returns-in_ok-insert : goal.returns-in_ok-insert
 returns-in_ok-insert c = λ marks knows.
-    knows_winner marks c.args.mark.now c.args.live.now c.insert.new.self c.if-mark.true (sym c.takes_over.ensures ∙ c.if-takes_over.true) c.in_ok-insert.ensures.entries c.in_ok-insert.ensures.updates c.in_ok-insert.ensures.unique knows
+    knows_winner marks c.args.mark.now c.args.live.now c.insert.new.self c.if-mark.true
+    (sym c.takes_over.ensures ∙ c.if-takes_over.true) c.in_ok-insert.ensures.entries c.in_ok-insert.ensures.updates c.in_ok-insert.ensures.unique knows
 
 pub returns-else-mark : goal.returns-else-mark
 returns-else-mark c = λ marks knows. elim c.else-mark.branch [

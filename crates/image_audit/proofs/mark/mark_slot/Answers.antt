@@ -27,7 +27,8 @@ returns-then-lies_below_valid-clause-read c =
     let below : LiesBelow g cells place = subst (λ (spare : List ℕ). LiesBelowValid (word_at spare place.slot)) c.spare-spare.ensures.spare (c.lies_below_valid.ensures.0 c.if-lies_below_valid.true) in
     let none : header_in g cells place ≡ None = ap (λ (spare : List ℕ). header_at spare place.slot) (sym c.spare-spare.ensures.spare) ∙ (sym c.header_at.ensures ∙ c.in_default.is) in
     subst (λ (slots : List Place). ReadTo g cells slots old) (sym (slots_more g place.page place.slot))
-    (read_more g cells (slots_before g place.page place.slot) place old old (sym (ap (λ (o : Option Header). old ++ option_to_list (mark_of g cells place o)) none ∙ append-nil old)) below c.requires.read)
+    (read_more g cells (slots_before g place.page place.slot) place old old
+    (sym (ap (λ (o : Option Header). old ++ option_to_list (mark_of g cells place o)) none ∙ append-nil old)) below c.requires.read)
 
 pub returns-in_default-clause-bad : goal.returns-in_default-clause-bad
 returns-in_default-clause-bad c =
@@ -46,7 +47,8 @@ returns-in-Ok-clause-read c =
     let word = word_at c.spare-spare.result.now place.slot in
     let read : header_at c.spare-spare.result.now place.slot ≡ Some c.in-Some.header = sym c.header_at.ensures ∙ c.in-Some.is in
     let there : header_in g cells place ≡ Some c.in-Some.header = ap (λ (spare : List ℕ). header_at spare place.slot) (sym c.spare-spare.ensures.spare) ∙ read in
-    let below : LiesBelow g cells place = subst (λ (spare : List ℕ). LiesBelowValid (word_at spare place.slot)) c.spare-spare.ensures.spare (word, header_valid word c.in-Some.header read, above_refl word) in
+    let below : LiesBelow g cells place =
+    subst (λ (spare : List ℕ). LiesBelowValid (word_at spare place.slot)) c.spare-spare.ensures.spare (word, header_valid word c.in-Some.header read, above_refl word) in
     subst (λ (slots : List Place). ReadTo g cells slots c.push.new.self.items) (sym (slots_more g place.page place.slot))
     (read_more g cells (slots_before g place.page place.slot) place old c.push.new.self.items
     (c.in-Ok.ensures.items

@@ -38,7 +38,9 @@ loop-left-preserved-in-Some c =
     let one = from_one marks left (omega arith) c.loop-left.invariant.within in
     record {
       within = omega (arith, c.loop-left.invariant.within);
-      later = λ seq. later_more mark (drop left marks) (get nat_eq c.loop-left.later) (get nat_eq c.insert.new.self) c.in_ok-other.ensures.updates.0 c.loop-left.invariant.later seq ∙ ap (place_with seq) (sym one);
+      later =
+          λ seq. later_more mark (drop left marks) (get nat_eq c.loop-left.later) (get nat_eq c.insert.new.self) c.in_ok-other.ensures.updates.0 c.loop-left.invariant.later seq
+          ∙ ap (place_with seq) (sym one);
       found = ap (λ (o : Option Place). repeat_by mark.place o (first_repeat (drop left marks))) (sym c.in-Some.is)
           ∙ (repeat_more mark (drop left marks) c.in_ok-other.field-0 (c.in_ok-other.ensures.old ∙ c.loop-left.invariant.later mark.header.seq) ∙ ap first_repeat (sym one));
     }
@@ -51,7 +53,9 @@ loop-left-preserved c =
     let one = from_one marks left (omega arith) c.loop-left.invariant.within in
     record {
       within = omega (arith, c.loop-left.invariant.within);
-      later = λ seq. later_more mark (drop left marks) (get nat_eq c.loop-left.later) (get nat_eq c.insert.new.self) c.in_ok-other.ensures.updates.0 c.loop-left.invariant.later seq ∙ ap (place_with seq) (sym one);
+      later =
+          λ seq. later_more mark (drop left marks) (get nat_eq c.loop-left.later) (get nat_eq c.insert.new.self) c.in_ok-other.ensures.updates.0 c.loop-left.invariant.later seq
+          ∙ ap (place_with seq) (sym one);
       found = c.loop-left.invariant.found
           ∙ (ap (λ (o : Option Place). repeat_by mark.place o (first_repeat (drop left marks))) (sym c.in_default.is)
           ∙ (repeat_more mark (drop left marks) c.in_ok-other.field-0 (c.in_ok-other.ensures.old ∙ c.loop-left.invariant.later mark.header.seq) ∙ ap first_repeat (sym one)));

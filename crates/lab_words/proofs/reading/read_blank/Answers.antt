@@ -23,7 +23,8 @@ returns-in-None-clause-found c =
     let command = c.read_words.result in
     where_found found (λ (die : AskedDie). IsDieWithin die × (map (string_bytes {Z = Global}) c.args.words.now ≡ die_words die)) (λ die is.
     let of = at_some found die (λ (d : AskedDie). (command ≡ Some (command_on d.head d.kind)) × (d.kind ≡ Plain → ⊥)) is c.of_command.ensures.found in
-    let read = at_some command (command_on die.head die.kind) (λ (k : Command). IsCommandWithin k × (map (string_bytes {Z = Global}) c.args.words.now ≡ command_words k)) of.0 c.read_words.ensures.found in
+    let read =
+    at_some command (command_on die.head die.kind) (λ (k : Command). IsCommandWithin k × (map (string_bytes {Z = Global}) c.args.words.now ≡ command_words k)) of.0 c.read_words.ensures.found in
     (read.0, read.1 ∙ command_spelled die.head die.kind of.1))
 
 pub returns-in-None-clause-only : goal.returns-in-None-clause-only

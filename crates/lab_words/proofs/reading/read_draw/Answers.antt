@@ -21,7 +21,8 @@ returns-in-len6-up-clause-found c =
     let items = six_and (string_bytes {Z = Global}) c.args.words.now c.voice-item.result c.kind-item.result c.seed-item.result c.count-item.result c.idle-item.result c.every-item.result
     c.in-len6-up.len_at_least c.voice-item.is c.kind-item.is c.seed-item.is c.count-item.is c.idle-item.is c.every-item.is in
     let spelled : v ∷ k ∷ s ∷ t ∷ i ∷ e ∷ behind ≡ map (string_bytes {Z = Global}) c.args.words.now =
-    (λ j. c.as_str-in-len6-up-4.ensures.value j ∷ c.as_str.ensures.value j ∷ c.as_str-in-len6-up.ensures.value j ∷ c.as_str-in-len6-up-2.ensures.value j ∷ c.as_str-in-len6-up-3.ensures.value j ∷ c.as_str-in-len6-up-5.ensures.value j ∷ behind) ∙ sym items in
+    (λ j. c.as_str-in-len6-up-4.ensures.value j ∷ c.as_str.ensures.value j ∷ c.as_str-in-len6-up.ensures.value j ∷ c.as_str-in-len6-up-2.ensures.value j ∷ c.as_str-in-len6-up-3.ensures.value j ∷
+    c.as_str-in-len6-up-5.ensures.value j ∷ behind) ∙ sym items in
     let found = c.order.result in
     let lines = c.read_numbers-from.result in
     let read = c.read_die-die.result in
@@ -50,7 +51,8 @@ returns-in-len6-up-clause-only c asked within is =
     let items = six_and (string_bytes {Z = Global}) c.args.words.now c.voice-item.result c.kind-item.result c.seed-item.result c.count-item.result c.idle-item.result c.every-item.result
     c.in-len6-up.len_at_least c.voice-item.is c.kind-item.is c.seed-item.is c.count-item.is c.idle-item.is c.every-item.is in
     let spelled : v ∷ k ∷ s ∷ t ∷ i ∷ e ∷ behind ≡ map (string_bytes {Z = Global}) c.args.words.now =
-    (λ j. c.as_str-in-len6-up-4.ensures.value j ∷ c.as_str.ensures.value j ∷ c.as_str-in-len6-up.ensures.value j ∷ c.as_str-in-len6-up-2.ensures.value j ∷ c.as_str-in-len6-up-3.ensures.value j ∷ c.as_str-in-len6-up-5.ensures.value j ∷ behind) ∙ sym items in
+    (λ j. c.as_str-in-len6-up-4.ensures.value j ∷ c.as_str.ensures.value j ∷ c.as_str-in-len6-up.ensures.value j ∷ c.as_str-in-len6-up-2.ensures.value j ∷ c.as_str-in-len6-up-3.ensures.value j ∷
+    c.as_str-in-len6-up-5.ensures.value j ∷ behind) ∙ sym items in
     let parts = draw_is v k s t i e behind asked (ap (λ (words : List (List ℕ)). codes "draw" ∷ words) spelled ∙ is) in
     let from : c.read_numbers-from.result ≡ Some asked.from =
     c.read_numbers-from.ensures.only parts.kind parts.seed parts.count parts.idle (subst IsDrawnWithin parts.from within.from) parts.kind_is parts.seed_is parts.count_is parts.idle_is

@@ -6,4 +6,8 @@ use Rattle.rssd_run.proofs.refusal.refuse_script.Goals as goal
 pub returns-in-BadLine : goal.returns-in-BadLine
 returns-in-BadLine g c =
     let log = g.O.Sink.log in
-    rw c.in-BadLine.is (refl, subst (λ (line : List ℕ). GaveLine (output (log c.args.out.now) (log c.refuse-in-BadLine.new.out)) line) (c.deref.ensures.0 ∙ c.bad_line.ensures) c.refuse-in-BadLine.ensures)
+    rw c.in-BadLine.is (
+      refl,
+      subst (λ (line : List ℕ). GaveLine (output (log c.args.out.now) (log c.refuse-in-BadLine.new.out)) line)
+          (c.deref.ensures.0 ∙ c.bad_line.ensures) c.refuse-in-BadLine.ensures,
+    )

@@ -84,13 +84,16 @@ pub returns-in_err-give-clause-fault : goal.returns-in_err-give-clause-fault
 returns-in_err-give-clause-fault g c =
     let log = g.O.Sink.log in
     let grew = c.loop-line.invariant.grew in
-    on_err c.from_residual.result _ (gave_failed (log c.args.out.now) (log c.loop-line.out) (log c.give.new.self) grew.0 c.as_slice.result.now c.in_err-give.ensures.log.0 grew.1 c.in_err-give.ensures.log.1)
+    on_err c.from_residual.result _ (gave_failed (log c.args.out.now) (log c.loop-line.out)
+    (log c.give.new.self) grew.0 c.as_slice.result.now c.in_err-give.ensures.log.0 grew.1 c.in_err-give.ensures.log.1)
 
 pub returns-in_err-give-clause-grew : goal.returns-in_err-give-clause-grew
 returns-in_err-give-clause-grew g c =
     let log = g.O.Sink.log in
-    let grew = c.loop-line.invariant.grew in
-    (grew.0 ++ moved (take c.in_err-give.ensures.log.0 c.as_slice.result.now) ∷ failed ∷ [], came_behind (log c.args.out.now) (log c.loop-line.out) (log c.give.new.self) grew.0 _ grew.1 c.in_err-give.ensures.log.1)
+    let grew = c.loop-line.invariant.grew in (
+      grew.0 ++ moved (take c.in_err-give.ensures.log.0 c.as_slice.result.now) ∷ failed ∷ [],
+      came_behind (log c.args.out.now) (log c.loop-line.out) (log c.give.new.self) grew.0 _ grew.1 c.in_err-give.ensures.log.1,
+    )
 
 pub returns-in_err-give-clause-keeps : goal.returns-in_err-give-clause-keeps
 returns-in_err-give-clause-keeps g c = λ d numbers die has.

@@ -16,11 +16,15 @@ no_front text word rest h e =
     let t : take (length word) text ≡ word = ap (take (length word)) e ∙ take_at word rest (length word) refl in
     true≢false (sym ((bytes_decides _ _).1 t) ∙ h)
 
-found : (text word : List ℕ) (r : Option (Bor (List ℕ))) → MatchOption r (pointwise eqb (take (length word) text) word ≡ false) (λ x. (pointwise eqb (take (length word) text) word ≡ true) × (x.now ≡ drop (length word) text) × (length x.now + length word ≡ length text)) → IfSome r (λ rest. text ≡ word ++ rest.now)
+found : (text word : List ℕ) (r : Option (Bor (List ℕ)))
+    → MatchOption r (pointwise eqb (take (length word) text) word ≡ false)
+    (λ x. (pointwise eqb (take (length word) text) word ≡ true) × (x.now ≡ drop (length word) text) × (length x.now + length word ≡ length text)) → IfSome r (λ rest. text ≡ word ++ rest.now)
 found text word None h = tt
 found text word (Some x) h = front text word x.now h.0 h.1
 
-none : (text word : List ℕ) (r : Option (Bor (List ℕ))) → MatchOption r (pointwise eqb (take (length word) text) word ≡ false) (λ x. (pointwise eqb (take (length word) text) word ≡ true) × (x.now ≡ drop (length word) text) × (length x.now + length word ≡ length text)) → IfNone r ((rest : List ℕ) → text ≡ word ++ rest → ⊥)
+none : (text word : List ℕ) (r : Option (Bor (List ℕ)))
+    → MatchOption r (pointwise eqb (take (length word) text) word ≡ false)
+    (λ x. (pointwise eqb (take (length word) text) word ≡ true) × (x.now ≡ drop (length word) text) × (length x.now + length word ≡ length text)) → IfNone r ((rest : List ℕ) → text ≡ word ++ rest → ⊥)
 none text word None h = λ rest e. no_front text word rest h e
 none text word (Some x) h = tt
 

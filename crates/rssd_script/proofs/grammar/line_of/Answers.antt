@@ -14,4 +14,5 @@ returns-then-is_word-2 c = (tt, c.if-is_word-2.ensures.0 refl)
 
 pub returns : goal.returns
 returns c =
-    no_word c.args.text.now c.in_default.ensures.none c.in_default-after.ensures.none c.in_default-after-2.ensures.none c.in_default-after-3.ensures.none c.in_default-after-4.ensures.none c.in_default-after-5.ensures.none (λ h. true≢false (sym (c.if-is_word.ensures.1 h))) (λ h. true≢false (sym (c.if-is_word-2.ensures.1 h)))
+    no_word c.args.text.now c.in_default.ensures.none c.in_default-after.ensures.none c.in_default-after-2.ensures.none c.in_default-after-3.ensures.none c.in_default-after-4.ensures.none
+    c.in_default-after-5.ensures.none (λ h. true≢false (sym (c.if-is_word.ensures.1 h))) (λ h. true≢false (sym (c.if-is_word-2.ensures.1 h)))

@@ -8,4 +8,5 @@ pub returns-clause-bytes : goal.returns-clause-bytes
 returns-clause-bytes c = All-from_get_or (λ byte. byte < 2 ^ 8) c.loop-i.bytes 0 (λ i _. c.loop-i.invariant.are i)
 
 pub returns-clause-digits : goal.returns-clause-digits
-returns-clause-digits c = digits_are c.args.digits.now c.loop-i.bytes (omega (arith, c.requires.pairs, c.loop-i.auto.bytes)) (λ k h. c.loop-i.invariant.high k (omega arith)) (λ k h. c.loop-i.invariant.low k (omega arith))
+returns-clause-digits c =
+    digits_are c.args.digits.now c.loop-i.bytes (omega (arith, c.requires.pairs, c.loop-i.auto.bytes)) (λ k h. c.loop-i.invariant.high k (omega arith)) (λ k h. c.loop-i.invariant.low k (omega arith))

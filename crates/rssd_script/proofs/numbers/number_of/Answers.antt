@@ -3,7 +3,8 @@ use Rattle.std.proofs.Common.{◌≡◌, ◌^◌, ◌<◌, ◌⊎◌, decimal, g
 use Rattle.std.proofs.lemmas.List.{take_more, take_all}
 use Rattle.rssd_script.proofs.Texts.{digits-push, read_on-push, read_on, read_short, decimal_short, decimal_at, decimal_zero, decimal_value, number_text}
 use Rattle.rssd_script.proofs.numbers.number_of.Goals as goal
-use Rattle.rssd_script.proofs.numbers.number_of.Goals.{then-is_empty-via-then-is_empty, then-is_empty-via-else-is_empty+then-text-gt10, then-byte-lt48-via-then-byte-lt48, then-byte-lt48-via-else-byte-lt48+then-byte-gt57, else-text-eq48-via-then-text-eq48+else-text-gt1, else-text-eq48-via-else-text-eq48}
+use Rattle.rssd_script.proofs.numbers.number_of.Goals.{then-is_empty-via-then-is_empty, then-is_empty-via-else-is_empty+then-text-gt10, then-byte-lt48-via-then-byte-lt48}
+use Rattle.rssd_script.proofs.numbers.number_of.Goals.{then-byte-lt48-via-else-byte-lt48+then-byte-gt57, else-text-eq48-via-then-text-eq48+else-text-gt1, else-text-eq48-via-else-text-eq48}
 
 pub returns-then-is_empty-clause-none : goal.returns-then-is_empty-clause-none
 returns-then-is_empty-clause-none c n small e =

@@ -22,7 +22,10 @@ invariant_of-self c =
 pub returns-clause-lists : goal.returns-clause-lists
 returns-clause-lists c =
     let listed = rw (← c.self.view_is) at c.requires in
-    rw (← c.self.view_is) (λ i. record { nodes = length-set c.self.inside.home.items c.args.node None i; lists = (unlink_holds _ _ _ c.self.invariant _ _ _ listed c.index-before.ensures c.index-after.ensures).lists i })
+    rw (← c.self.view_is) (λ i. record {
+      nodes = length-set c.self.inside.home.items c.args.node None i;
+      lists = (unlink_holds _ _ _ c.self.invariant _ _ _ listed c.index-before.ensures c.index-after.ensures).lists i;
+    })
 
 pub returns-clause-free : goal.returns-clause-free
 returns-clause-free c =

@@ -24,6 +24,8 @@ returns c =
     let within : c.args.page < page_count g = subst (λ (g : Geometry). c.args.page < page_count g) (sym c.self.view_is) c.requires.page in
     let start : ℕ = c.args.page * whole_bytes g in
     record {
-      main = subst (λ (h : Geometry). slice_range c.args.cells.now start (start + g.main_bytes) ≡ main_at h (pages_in h c.args.cells.now) c.args.page) c.self.view_is (main_range g c.args.cells.now c.args.page long);
+      main =
+          subst (λ (h : Geometry). slice_range c.args.cells.now start (start + g.main_bytes) ≡ main_at h (pages_in h c.args.cells.now) c.args.page) c.self.view_is
+          (main_range g c.args.cells.now c.args.page long);
       long = simp (length-take, length-drop) (omega (arith, page_room g c.args.cells.now c.args.page long within, ap (λ (h : Geometry). h.main_bytes) c.self.view_is));
     }

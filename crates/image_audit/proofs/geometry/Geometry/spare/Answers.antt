@@ -24,7 +24,9 @@ returns c =
     let within : c.args.page < page_count g = subst (λ (g : Geometry). c.args.page < page_count g) (sym c.self.view_is) c.requires.page in
     let start : ℕ = c.args.page * whole_bytes g in
     record {
-      spare = subst (λ (h : Geometry). slice_range c.args.cells.now (start + g.main_bytes) (start + whole_bytes g) ≡ spare_at h (pages_in h c.args.cells.now) c.args.page) c.self.view_is (spare_range g c.args.cells.now c.args.page long);
+      spare =
+          subst (λ (h : Geometry). slice_range c.args.cells.now (start + g.main_bytes) (start + whole_bytes g) ≡ spare_at h (pages_in h c.args.cells.now) c.args.page) c.self.view_is
+          (spare_range g c.args.cells.now c.args.page long);
       long = simp (length-take, length-drop) (omega (arith, page_room g c.args.cells.now c.args.page long within, ap (λ (h : Geometry). h.generations) c.self.view_is));
       few_slots = omega (arith, ap (λ (h : Geometry). h.generations) c.self.view_is, c.self.invariant.few_generations);
     }

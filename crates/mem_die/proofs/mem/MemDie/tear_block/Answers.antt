@@ -12,7 +12,12 @@ invariant_of-self c =
     let now = c.tear_pages.new.bytes in
     let long = rw c.deref_mut.ensures.value at c.tear_pages.ensures.change.same_length in
     let is : (with_items cells now).items ≡ now = vec_items cells now long in
-    record { within = c.args.self.now.within; whole = rw is (rw long c.args.self.now.whole); bytes = rw is c.tear_pages.ensures.bytes; counts = length-set c.args.self.now.erases.items c.args.block c.saturating_add.result ∙ c.args.self.now.counts }
+    record {
+      within = c.args.self.now.within;
+      whole = rw is (rw long c.args.self.now.whole);
+      bytes = rw is c.tear_pages.ensures.bytes;
+      counts = length-set c.args.self.now.erases.items c.args.block c.saturating_add.result ∙ c.args.self.now.counts;
+    }
 
 pub returns-clause-pages : goal.returns-clause-pages
 returns-clause-pages c =

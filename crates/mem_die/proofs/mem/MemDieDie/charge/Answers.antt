@@ -32,7 +32,10 @@ returns-in-Cut-clause-kept c =
     let above : IsAbove (page_of (mem_state c.tear_cell-in-Cut.new.self) c.args.page) (page_of old c.args.page)
     = rw c.tear_cell-in-Cut.ensures.page (charged_or_not_above (reaches c.in-Cut.torn c.args.cell) (page_of old c.args.page) c.args.cell within) in
     let falls : NeverFalls old (mem_state c.tear_cell-in-Cut.new.self) = page_above_never_falls {old = old} c.args.page
-    (let only : OnlyPage c.args.page old (mem_state c.tear_cell-in-Cut.new.self) = record { others = c.tear_cell-in-Cut.ensures.only_page.others; erases = c.tear_cell-in-Cut.ensures.only_page.erases } in only) above in
+    (let only : OnlyPage c.args.page old (mem_state c.tear_cell-in-Cut.new.self) = record {
+      others = c.tear_cell-in-Cut.ensures.only_page.others;
+      erases = c.tear_cell-in-Cut.ensures.only_page.erases;
+    } in only) above in
     search rules
 
 pub returns-in-Whole-clause-passed : goal.returns-in-Whole-clause-passed

@@ -29,14 +29,16 @@ pub returns-in-Cut-clause-kept : goal.returns-in-Cut-clause-kept
 returns-in-Cut-clause-kept c =
     let falls : NeverFalls (mem_state c.args.self.now) (mem_state c.tear_block-in-Cut.new.self)
     = block_rose_never_falls {old = mem_state c.args.self.now} c.args.block
-    (let only : OnlyBlock c.args.block (mem_state c.args.self.now) (mem_state c.tear_block-in-Cut.new.self) = record { pages = c.tear_block-in-Cut.ensures.only_block.pages; counts = c.tear_block-in-Cut.ensures.only_block.counts } in only)
+    (let only : OnlyBlock c.args.block (mem_state c.args.self.now)
+    (mem_state c.tear_block-in-Cut.new.self) = record { pages = c.tear_block-in-Cut.ensures.only_block.pages; counts = c.tear_block-in-Cut.ensures.only_block.counts } in only)
     (omega (arith, c.tear_block-in-Cut.ensures.count)) c.tear_block-in-Cut.ensures.no_lower in
     search rules
 
 pub returns-in-Whole-clause-passed : goal.returns-in-Whole-clause-passed
 returns-in-Whole-clause-passed c =
     whole_call c.args.self.now c.tear_block.new.self c.begin_change.new.self c.tear_block.ensures.supply c.in-Whole.ensures
-    (erased_once c.args.block (mem_state c.args.self.now) (mem_state c.tear_block.new.self) (record { blank = c.tear_block.ensures.pages; count = c.tear_block.ensures.count }) (record { pages = c.tear_block.ensures.only_block.pages; counts = c.tear_block.ensures.only_block.counts }) c.tear_block.ensures.shape)
+    (erased_once c.args.block (mem_state c.args.self.now) (mem_state c.tear_block.new.self) (record { blank = c.tear_block.ensures.pages; count = c.tear_block.ensures.count })
+    (record { pages = c.tear_block.ensures.only_block.pages; counts = c.tear_block.ensures.only_block.counts }) c.tear_block.ensures.shape)
 
 pub returns-in-Cut-clause-failed : goal.returns-in-Cut-clause-failed
 returns-in-Cut-clause-failed c =

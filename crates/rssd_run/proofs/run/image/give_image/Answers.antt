@@ -13,7 +13,8 @@ returns-in_err-give-clause-front g c =
     let log = g.G.Sink.log in
     let pages = pages_in (page_bytes (shape_of c.args.head.now)) c.args.cells.now in
     on_err c.from_residual.result _
-    (given_head_part (log c.args.image_out.now) (log c.give.new.self) (image c.args.head.now []) c.encode_head.result pages c.in_err-give.ensures.log.0 (c.encode_head.ensures []) c.in_err-give.ensures.log.1)
+    (given_head_part (log c.args.image_out.now) (log c.give.new.self) (image c.args.head.now []) c.encode_head.result pages c.in_err-give.ensures.log.0
+    (c.encode_head.ensures []) c.in_err-give.ensures.log.1)
 
 pub loop-page-preserved : goal.loop-page-preserved
 loop-page-preserved g c =
@@ -25,7 +26,9 @@ loop-page-preserved g c =
       next = omega (arith, steps.0, is.next);
       finite = tt;
       size = steps.0 ∙ is.size;
-      given = given_page (log c.args.image_out.now) (log c.loop-page.image_out) (log c.give-in-loop-page.new.self) (image_pieces c.args.head.now c.args.cells.now) size (chunks_rest c.loop-page.page-iterator) c.in-Some.page.now (chunks_rest c.next.new.self)
+      given =
+          given_page (log c.args.image_out.now) (log c.loop-page.image_out) (log c.give-in-loop-page.new.self) (image_pieces c.args.head.now c.args.cells.now) size
+          (chunks_rest c.loop-page.page-iterator) c.in-Some.page.now (chunks_rest c.next.new.self)
           is.given (omega (arith, is.next, is.size)) steps.1.0 (steps.1.1 ∙ ap (λ (n : ℕ). min n (length (chunks_rest c.loop-page.page-iterator))) is.size) steps.1.2 c.in_ok-give-2.ensures.log;
     }
 
@@ -36,8 +39,10 @@ returns-in_err-give-2-clause-front g c =
     let size = page_bytes (shape_of c.args.head.now) in
     let is = c.loop-page.invariant in
     on_err c.from_residual-in_err-give-2.result _
-    (given_part (log c.args.image_out.now) (log c.loop-page.image_out) (log c.give-in-loop-page.new.self) (image_pieces c.args.head.now c.args.cells.now) size (chunks_rest c.loop-page.page-iterator) c.in-Some.page.now (chunks_rest c.next.new.self)
-    c.in_err-give-2.ensures.log.0 is.given (omega (arith, is.next, is.size)) steps.1.0 (steps.1.1 ∙ ap (λ (n : ℕ). min n (length (chunks_rest c.loop-page.page-iterator))) is.size) steps.1.2 c.in_err-give-2.ensures.log.1)
+    (given_part (log c.args.image_out.now) (log c.loop-page.image_out) (log c.give-in-loop-page.new.self) (image_pieces c.args.head.now c.args.cells.now) size
+    (chunks_rest c.loop-page.page-iterator) c.in-Some.page.now (chunks_rest c.next.new.self)
+    c.in_err-give-2.ensures.log.0 is.given (omega (arith, is.next, is.size)) steps.1.0
+    (steps.1.1 ∙ ap (λ (n : ℕ). min n (length (chunks_rest c.loop-page.page-iterator))) is.size) steps.1.2 c.in_err-give-2.ensures.log.1)
 
 pub loop-page-init : goal.loop-page-init
 loop-page-init g c =
@@ -49,19 +54,24 @@ loop-page-init g c =
       finite = tt;
       size = search rules;
       given = subst (λ (xs : List ℕ). IsGiven (log c.args.image_out.now) (log c.give.new.self) (image_pieces c.args.head.now c.args.cells.now) (pages_in size xs)) (sym rest)
-          (given_head (log c.args.image_out.now) (log c.give.new.self) (image c.args.head.now []) c.encode_head.result (pages_in size c.args.cells.now) (c.encode_head.ensures []) c.in_ok-give.ensures.log);
+          (given_head (log c.args.image_out.now) (log c.give.new.self) (image c.args.head.now []) c.encode_head.result (pages_in size c.args.cells.now)
+          (c.encode_head.ensures []) c.in_ok-give.ensures.log);
     }
 
 pub returns-clause-done : goal.returns-clause-done
 returns-clause-done g c =
     let log = g.G.Sink.log in
     let whole = image_pieces c.args.head.now c.args.cells.now in
-    let given = given_whole (log c.args.image_out.now) (log c.loop-page.image_out) whole (page_bytes (shape_of c.args.head.now)) (chunks_rest c.loop-page.page-iterator) c.loop-page.invariant.given c.in-None.ensures.steps.1.0 in
+    let given =
+    given_whole (log c.args.image_out.now) (log c.loop-page.image_out) whole (page_bytes (shape_of c.args.head.now))
+    (chunks_rest c.loop-page.page-iterator) c.loop-page.invariant.given c.in-None.ensures.steps.1.0 in
     flush_done c.flush.result (log c.args.image_out.now) (log c.loop-page.image_out) (log c.flush.new.self) whole given c.flush.ensures.log
 
 pub returns-clause-front : goal.returns-clause-front
 returns-clause-front g c =
     let log = g.G.Sink.log in
     let whole = image_pieces c.args.head.now c.args.cells.now in
-    let given = given_whole (log c.args.image_out.now) (log c.loop-page.image_out) whole (page_bytes (shape_of c.args.head.now)) (chunks_rest c.loop-page.page-iterator) c.loop-page.invariant.given c.in-None.ensures.steps.1.0 in
+    let given =
+    given_whole (log c.args.image_out.now) (log c.loop-page.image_out) whole (page_bytes (shape_of c.args.head.now))
+    (chunks_rest c.loop-page.page-iterator) c.loop-page.invariant.given c.in-None.ensures.steps.1.0 in
     flush_front c.flush.result (log c.args.image_out.now) (log c.loop-page.image_out) (log c.flush.new.self) whole given c.flush.ensures.log

@@ -4,7 +4,8 @@ use Rattle.rssd_core.specs.SectorArray.{filled_up}
 use Rattle.rssd_run.proofs.Rows.{filled_front, filled_whole}
 use Rattle.rssd_run.proofs.run.line.write_bytes.Goals as goal
 
-row_is : (size : ℕ) (bytes row : List ℕ) (sector_bytes : ℕ) → size ≡ sector_bytes → row ≡ filled_up 512 bytes → length bytes ≤ sector_bytes → sector_bytes ≤ 512 → take size row ≡ filled_up sector_bytes bytes
+row_is : (size : ℕ) (bytes row : List ℕ) (sector_bytes : ℕ) → size ≡ sector_bytes → row ≡ filled_up 512 bytes → length bytes ≤ sector_bytes → sector_bytes ≤ 512
+    → take size row ≡ filled_up sector_bytes bytes
 row_is size bytes row sector_bytes same is fits small = rw (same, is) (filled_front sector_bytes bytes fits small)
 
 pub returns-then-bytes-size : goal.returns-then-bytes-size

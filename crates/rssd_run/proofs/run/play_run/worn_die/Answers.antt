@@ -20,7 +20,8 @@ unreachable-requires c =
     let worn : WornMem = c.in_ok-die.die in
     let given : Shape = record c.die_shape.result { blocks = head.blocks + reserve + 1 } in
     let is : given ≡ worn_shape head reserve = λ i. record (c.die_shape.ensures.shape i) { blocks = head.blocks + reserve + 1 } in
-    let new : IsNew (worn_shape head reserve) (mem_state worn.die) = subst (λ (s : Shape). IsNew s (mem_state worn.die)) is (subst (λ (d : MemDie). IsNew given (mem_state d)) (sym c.in_ok-die.ensures.die) c.in_ok-blank_mem.ensures) in
+    let new : IsNew (worn_shape head reserve) (mem_state worn.die) =
+    subst (λ (s : Shape). IsNew s (mem_state worn.die)) is (subst (λ (d : MemDie). IsNew given (mem_state d)) (sym c.in_ok-die.ensures.die) c.in_ok-blank_mem.ensures) in
     let blank : IsBlankDie (worn_shape head reserve) (worn_state worn) = new_worn (worn_shape head reserve) worn new in
     let refused = c.in-Err.refused in
     let memory : refused.why ≡ OutOfMemory = worn_opens head reserve c.requires.within c.requires.reserve worn refused.die blank refused.why c.in-Err.ensures.cause in
@@ -36,7 +37,8 @@ returns-in-Ok c =
     let worn : WornMem = c.in_ok-die.die in
     let given : Shape = record c.die_shape.result { blocks = head.blocks + reserve + 1 } in
     let is : given ≡ worn_shape head reserve = λ i. record (c.die_shape.ensures.shape i) { blocks = head.blocks + reserve + 1 } in
-    let new : IsNew (worn_shape head reserve) (mem_state worn.die) = subst (λ (s : Shape). IsNew s (mem_state worn.die)) is (subst (λ (d : MemDie). IsNew given (mem_state d)) (sym c.in_ok-die.ensures.die) c.in_ok-blank_mem.ensures) in
+    let new : IsNew (worn_shape head reserve) (mem_state worn.die) =
+    subst (λ (s : Shape). IsNew s (mem_state worn.die)) is (subst (λ (d : MemDie). IsNew given (mem_state d)) (sym c.in_ok-die.ensures.die) c.in_ok-blank_mem.ensures) in
     let blank : IsBlankDie (worn_shape head reserve) (worn_state worn) = new_worn (worn_shape head reserve) worn new in
     let spare = c.in-Ok.die in
     let blocks = c.in-Ok.ensures.logical in
@@ -46,5 +48,9 @@ returns-in-Ok c =
       blank = read_worn (worn_shape head reserve) worn spare.inner blank c.in-Ok.ensures.reads;
       every = every_read worn spare.inner c.in-Ok.ensures.reads ∙ c.in_ok-die.ensures.every;
       starts = c.in-Ok.ensures.starts;
-      spare = record { shows = ap (λ n. spare_state (worn_state spare.inner) n (own_of spare.tally)) blocks; facts = subst (λ n. KeepsFacts (worn_state spare.inner) (bad_erases_of spare.inner) n spare.tally) blocks spare.keeps };
+      spare =
+          record {
+            shows = ap (λ n. spare_state (worn_state spare.inner) n (own_of spare.tally)) blocks;
+            facts = subst (λ n. KeepsFacts (worn_state spare.inner) (bad_erases_of spare.inner) n spare.tally) blocks spare.keeps;
+          };
     }

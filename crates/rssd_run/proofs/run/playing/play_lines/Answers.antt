@@ -12,7 +12,8 @@ use Rattle.rssd_run.proofs.Plays.{CalledSo, play_of_none, play_of_more, play_cut
 use Rattle.rssd_run.proofs.run.playing.play_lines.Goals as goal
 
 pub loop-line-init : goal.loop-line-init
-loop-line-init g c = record { numbers = refl; plays = λ base before stands. (before, stands, play_of_none (LeavesDie g.D.Die.state) (g.F.Device.device c.args.ftl.now).numbers before (g.O.Sink.log c.args.out.now)) }
+loop-line-init g c =
+    record { numbers = refl; plays = λ base before stands. (before, stands, play_of_none (LeavesDie g.D.Die.state) (g.F.Device.device c.args.ftl.now).numbers before (g.O.Sink.log c.args.out.now)) }
 
 pub loop-line-preserved : goal.loop-line-preserved
 loop-line-preserved g c =
@@ -64,5 +65,8 @@ returns-in_err-give-clause-err g c =
     let so = c.loop-line.invariant.plays base before (record { numbers = refl; shows = shows; sound = sound; book = book }) in
     let s = played_step first.numbers base line reply old new so.0 so.1 c.play_one-reply.ensures.numbers call in
     let e : Event = record { line = line; reply = reply; before = so.0; after = s.0 } in
-    let leaves : LeavesDie g.D.Die.state e = (c.play_one-reply.ensures.die.0, c.play_one-reply.ensures.die.1 ∙ sym s.3) in
-    (s.0, play_cut_off (LeavesDie g.D.Die.state) first.numbers before (take i lines) e (log c.args.out.now) (log c.loop-line.out) (log c.give.new.self) so.2 s.2 leaves lines front c.in_err-give.ensures.log.0 given))
+    let leaves : LeavesDie g.D.Die.state e = (c.play_one-reply.ensures.die.0, c.play_one-reply.ensures.die.1 ∙ sym s.3) in (
+      s.0,
+      play_cut_off (LeavesDie g.D.Die.state) first.numbers before (take i lines) e (log c.args.out.now) (log c.loop-line.out)
+          (log c.give.new.self) so.2 s.2 leaves lines front c.in_err-give.ensures.log.0 given,
+    ))

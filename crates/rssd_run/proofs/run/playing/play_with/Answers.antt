@@ -12,9 +12,11 @@ play_lines-requires-clause-few_bytes g c =
 pub returns-in-Ok-play_lines-clause-done : goal.returns-in-Ok-play_lines-clause-done
 returns-in-Ok-play_lines-clause-done g c =
     let given : IsGivenBlank c.args.head.now (g.D.Die.state c.args.die) = record { within = c.requires.within; shaped = g.met.D.Die.shaped c.args.die; blank = c.requires.blank } in
-    plays_from c.args.head.now (g.D.Die.state c.args.die) given (g.F.Device.device c.in-Ok.ftl) c.in-Ok.ensures _ c.args.lines.now (g.O.Sink.log c.args.out.now) (g.O.Sink.log c.play_lines.new.out) c.in-Ok-play_lines.ensures.ok
+    plays_from c.args.head.now (g.D.Die.state c.args.die) given (g.F.Device.device c.in-Ok.ftl) c.in-Ok.ensures _ c.args.lines.now (g.O.Sink.log c.args.out.now)
+    (g.O.Sink.log c.play_lines.new.out) c.in-Ok-play_lines.ensures.ok
 
 pub returns-clause-front : goal.returns-clause-front
 returns-clause-front g c = λ is.
     let given : IsGivenBlank c.args.head.now (g.D.Die.state c.args.die) = record { within = c.requires.within; shaped = g.met.D.Die.shaped c.args.die; blank = c.requires.blank } in
-    plays_front_from c.args.head.now (g.D.Die.state c.args.die) given (g.F.Device.device c.in-Ok.ftl) c.in-Ok.ensures _ c.args.lines.now (g.O.Sink.log c.args.out.now) (g.O.Sink.log c.play_lines.new.out) c.in-Err.ensures.err
+    plays_front_from c.args.head.now (g.D.Die.state c.args.die) given (g.F.Device.device c.in-Ok.ftl) c.in-Ok.ensures _ c.args.lines.now (g.O.Sink.log c.args.out.now)
+    (g.O.Sink.log c.play_lines.new.out) c.in-Err.ensures.err

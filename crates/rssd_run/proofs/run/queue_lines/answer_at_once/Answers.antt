@@ -10,7 +10,8 @@ returns-clause-ok g c =
     let session = g.S.Stepping.session in
     gave_ok c.tell.result (tagged_line c.args.tag c.step.new.reply) (log c.args.out.now) (log c.tell.new.out) _ c.tell.ensures
     (λ given d numbers lines queue due.
-    at_once_acts d (session c.args.session.now) (session c.step.new.self) (log c.args.out.now) (log c.tell.new.out) c.args.line.now c.step.new.reply (c.step.ensures.step d numbers) queue lines c.args.tag due given)
+    at_once_acts d (session c.args.session.now) (session c.step.new.self) (log c.args.out.now) (log c.tell.new.out) c.args.line.now c.step.new.reply
+    (c.step.ensures.step d numbers) queue lines c.args.tag due given)
 
 pub returns-clause-err : goal.returns-clause-err
 returns-clause-err g c =
@@ -18,4 +19,5 @@ returns-clause-err g c =
     let session = g.S.Stepping.session in
     gave_err c.tell.result (tagged_line c.args.tag c.step.new.reply) (log c.args.out.now) (log c.tell.new.out) _ c.tell.ensures
     (λ front given d numbers lines queue due.
-    at_once_cut d (session c.args.session.now) (session c.step.new.self) (log c.args.out.now) (log c.tell.new.out) c.args.line.now c.step.new.reply (c.step.ensures.step d numbers) queue lines c.args.tag due front given)
+    at_once_cut d (session c.args.session.now) (session c.step.new.self) (log c.args.out.now) (log c.tell.new.out) c.args.line.now c.step.new.reply
+    (c.step.ensures.step d numbers) queue lines c.args.tag due front given)

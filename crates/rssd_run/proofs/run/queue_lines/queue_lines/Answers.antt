@@ -38,7 +38,8 @@ loop-line-preserved g c =
           session_then d (place lines 1 c.args.queue.now) (place (drop i lines) (i + 1) c.loop-line.queue) (place rest (i + 1 + 1) c.take_line.new.queue)
           (session c.args.session.now) (session c.loop-line.session) (session c.take_line.new.session) (log c.args.out.now) (log c.loop-line.out) (log c.take_line.new.out)
           (c.loop-line.invariant.acts d numbers)
-          (session_at d (place (line ∷ rest) (tag + 1) c.loop-line.queue) (place (drop i lines) (i + 1) c.loop-line.queue) (place rest (tag + 1 + 1) c.take_line.new.queue) (place rest (i + 1 + 1) c.take_line.new.queue)
+          (session_at d (place (line ∷ rest) (tag + 1) c.loop-line.queue) (place (drop i lines) (i + 1) c.loop-line.queue) (place rest (tag + 1 + 1) c.take_line.new.queue)
+          (place rest (i + 1 + 1) c.take_line.new.queue)
           (session c.loop-line.session) (session c.take_line.new.session) (log c.loop-line.out) (log c.take_line.new.out) from to
           (c.in_ok-take_line.ensures.ok d (c.loop-line.invariant.numbers d numbers) rest));
     }

@@ -20,7 +20,8 @@ loop-preserved g c =
       numbers = λ d numbers. c.serve_next.ensures.numbers d (c.loop.invariant.numbers d numbers);
       queue_of = c.serve_next.ensures.queue_of;
       acts = λ d numbers lines tag all.
-          session_then d (place lines tag c.args.queue.now) (place lines tag c.loop.queue) (place lines tag c.serve_next.new.queue) (session c.args.session.now) (session c.loop.session) (session c.serve_next.new.session)
+          session_then d (place lines tag c.args.queue.now) (place lines tag c.loop.queue) (place lines tag c.serve_next.new.queue) (session c.args.session.now) (session c.loop.session)
+          (session c.serve_next.new.session)
           (log c.args.out.now) (log c.loop.out) (log c.serve_next.new.out) (c.loop.invariant.acts d numbers lines tag all)
           (c.in_ok-serve_next.ensures.ok d (c.loop.invariant.numbers d numbers) lines tag (due_all (is_running (session c.loop.session).holding) c.loop.queue lines all));
     }
@@ -32,7 +33,8 @@ pub returns-clause-ok : goal.returns-clause-ok
 returns-clause-ok g c = λ d numbers lines tag all.
     let session = g.S.Stepping.session in
     let log = g.O.Sink.log in
-    session_then d (place lines tag c.args.queue.now) (place lines tag c.loop.queue) (place lines tag c.serve_next.new.queue) (session c.args.session.now) (session c.loop.session) (session c.serve_next.new.session)
+    session_then d (place lines tag c.args.queue.now) (place lines tag c.loop.queue) (place lines tag c.serve_next.new.queue) (session c.args.session.now) (session c.loop.session)
+    (session c.serve_next.new.session)
     (log c.args.out.now) (log c.loop.out) (log c.serve_next.new.out) (c.loop.invariant.acts d numbers lines tag all)
     (c.in_ok-serve_next.ensures.ok d (c.loop.invariant.numbers d numbers) lines tag (due_all (is_running (session c.loop.session).holding) c.loop.queue lines all))
 

@@ -28,7 +28,8 @@ returns-in-Ok-queue_lines-clause-done g c =
     let fresh : IsFresh c.args.head.now (mem_state c.args.die) = record { within = c.requires.within; shaped = mem_shaped c.args.die; new = c.requires.blank } in
     let starts = c.in_ok-session.ensures.started in
     queues_of c.args.head.now c.sector_bytes.result c.sector_bytes.ensures c.in-Ok.queue c.in-Ok.ensures (mem_state c.args.die) fresh c.args.lines.now _ _ starts
-    (g.O.Sink.log c.args.out.now) (g.O.Sink.log c.queue_lines.new.out) c.queue_lines.new.queue c.in-Ok-queue_lines.ensures.done (c.in-Ok-queue_lines.ensures.ok (numbers_named c.args.head.now) starts.numbers)
+    (g.O.Sink.log c.args.out.now) (g.O.Sink.log c.queue_lines.new.out) c.queue_lines.new.queue c.in-Ok-queue_lines.ensures.done
+    (c.in-Ok-queue_lines.ensures.ok (numbers_named c.args.head.now) starts.numbers)
 
 pub returns-clause-front : goal.returns-clause-front
 returns-clause-front g c = λ is.

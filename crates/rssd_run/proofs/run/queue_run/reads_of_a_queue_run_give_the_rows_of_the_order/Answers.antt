@@ -13,4 +13,5 @@ pub returns : goal.returns
 returns c = λ head lines log after given.
     let size : (row_of head.scheme).sector_bytes ≡ (numbers_named head).geometry.sector_bytes = sym (named_row head.scheme).sector_bytes in
     subst (λ (n : ℕ). ReadsTheOrder n (zero_sectors head) given.acts.acts) (sym size)
-    (reads_the_order (numbers_named head) given.acts.acts (first_place head lines) (place [] (length lines + 1) given.queue) given.before given.after (zero_sectors head) given.start.zeros refl refl refl size given.acts.run)
+    (reads_the_order (numbers_named head) given.acts.acts (first_place head lines) (place [] (length lines + 1) given.queue) given.before given.after
+    (zero_sectors head) given.start.zeros refl refl refl size given.acts.run)

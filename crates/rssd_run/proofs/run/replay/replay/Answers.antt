@@ -17,4 +17,5 @@ returns-in_err-run_on-clause-spare g c = λ is.
 pub returns-clause-done : goal.returns-clause-done
 returns-clause-done g c =
     let fresh : IsFresh c.args.head.now (mem_state c.in-Ok.die) = record { within = c.requires.within; shaped = mem_shaped c.in-Ok.die; new = c.in-Ok.ensures } in
-    replays_of c.args.head.now (mem_state c.in-Ok.die) fresh c.args.lines.now (g.O.Sink.log c.args.out.now) (g.O.Sink.log c.run_on.new.out) (mem_state c.in_ok-run_on.field-0) c.in_ok-run_on.ensures.done
+    replays_of c.args.head.now (mem_state c.in-Ok.die) fresh c.args.lines.now (g.O.Sink.log c.args.out.now) (g.O.Sink.log c.run_on.new.out)
+    (mem_state c.in_ok-run_on.field-0) c.in_ok-run_on.ensures.done

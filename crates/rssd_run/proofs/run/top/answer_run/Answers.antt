@@ -50,7 +50,11 @@ returns-then-is_err-clause-says g c =
     let given = g.O.Sink.log c.run_image.new.out in
     let runs = c.in-Ok-run_image.ensures.done in
     let last = mem_state c.in-Ok-run_image.die in
-    inl (not_handed_on image script out c.deref.result.now c.in-Ok-read_image.read.0 c.in-Ok-read_image.read.1.items read given last runs (flush_failed c.flush.result given out.after c.if-is_err.ensures.value c.flush.ensures.log), refl)
+    inl (
+      not_handed_on image script out c.deref.result.now c.in-Ok-read_image.read.0 c.in-Ok-read_image.read.1.items read given last runs
+          (flush_failed c.flush.result given out.after c.if-is_err.ensures.value c.flush.ensures.log),
+      refl,
+    )
 
 pub returns-in-Ok-give_image-clause-says : goal.returns-in-Ok-give_image-clause-says
 returns-in-Ok-give_image-clause-says g c =

@@ -10,12 +10,14 @@ returns-in_default-clause-step g c = λ d numbers.
 
 pub returns-then-stopped-clause-step : goal.returns-then-stopped-clause-step
 returns-then-stopped-clause-step g c = λ d numbers.
-    stopped_off g.D.Die.state g.C.Scheme.meaning g.F.Device.device c.args.self.now _ c.self.view_is d numbers c.in-Some.ftl c.in-Some.is (sym c.stopped.ensures ∙ c.if-stopped.true) c.self.invariant.small
+    stopped_off g.D.Die.state g.C.Scheme.meaning g.F.Device.device c.args.self.now _ c.self.view_is d numbers c.in-Some.ftl c.in-Some.is
+    (sym c.stopped.ensures ∙ c.if-stopped.true) c.self.invariant.small
     c.args.line.now c.requires.line
 
 pub returns-clause-step : goal.returns-clause-step
 returns-clause-step g c = λ d numbers.
-    device_answers g.D.Die.state g.C.Scheme.meaning g.F.Device.device c.args.self.now _ c.self.view_is d numbers c.in-Some.ftl c.answer_line.new.ftl c.args.line.now c.answer_line.new.reply c.in-Some.is
+    device_answers g.D.Die.state g.C.Scheme.meaning g.F.Device.device c.args.self.now _ c.self.view_is d numbers c.in-Some.ftl c.answer_line.new.ftl c.args.line.now c.answer_line.new.reply
+    c.in-Some.is
     (sym c.stopped.ensures ∙ c.if-stopped.false) c.answer_line.ensures.step
 
 pub returns-in_default-clause-answers : goal.returns-in_default-clause-answers
@@ -29,5 +31,6 @@ returns-then-stopped-clause-answers g c = λ d numbers.
 
 pub returns-clause-answers : goal.returns-clause-answers
 returns-clause-answers g c = λ d numbers.
-    running_answers g.D.Die.state g.C.Scheme.meaning g.F.Device.device c.args.self.now _ c.self.view_is d numbers c.in-Some.ftl c.answer_line.new.ftl c.args.line.now c.answer_line.new.reply c.in-Some.is
+    running_answers g.D.Die.state g.C.Scheme.meaning g.F.Device.device c.args.self.now _ c.self.view_is d numbers c.in-Some.ftl c.answer_line.new.ftl c.args.line.now c.answer_line.new.reply
+    c.in-Some.is
     (sym c.stopped.ensures ∙ c.if-stopped.false) c.requires.line c.answer_line.ensures.answers

@@ -29,11 +29,13 @@ returns-in-Some-clause-answers g c = λ d numbers.
     let told : tallies c.counts.result ≡ tallies_of (g.F.Device.device c.in-Some.ftl).view
     = λ i. record { first = c.counts.ensures.first i; second = c.counts.ensures.second i; declined = c.counts.ensures.declined i; moved = c.counts.ensures.moved i } in
     let sum : tallies c.added.result ≡ added_tallies (tallies p.base) (tallies_of (g.F.Device.device c.in-Some.ftl).view) = c.added.ensures ∙ (λ i. added_tallies (tallies p.base) (told i)) in
-    stat_of_device g.D.Die.state g.C.Scheme.meaning g.F.Device.device c.args.self.now p c.self.view_is d numbers c.in-Some.ftl c.added.result c.erased.result c.stat_reply.result c.in-Some.is sum c.erased.ensures c.stat_reply.ensures
+    stat_of_device g.D.Die.state g.C.Scheme.meaning g.F.Device.device c.args.self.now p c.self.view_is d numbers c.in-Some.ftl c.added.result c.erased.result c.stat_reply.result c.in-Some.is sum
+    c.erased.ensures c.stat_reply.ensures
 
 pub returns-in-Some-closed-clause-answers : goal.returns-in-Some-closed-clause-answers
 returns-in-Some-closed-clause-answers g c = λ d numbers.
     let p : Parts g.row.D.Denot g.row.C.Denot g.row.F.Denot = record { mounted = c.self.inside.mounted; closed = c.self.inside.closed; plan = c.self.inside.plan; base = c.self.inside.base } in
     let reply = c.stat_reply-in-Some-closed in
-    stat_of_die g.D.Die.state g.C.Scheme.meaning g.F.Device.device c.args.self.now p c.self.view_is d numbers (c.in-Some-closed.die, c.in-Some-closed.field-0-1) c.erased-in-Some-closed.result reply.result
+    stat_of_die g.D.Die.state g.C.Scheme.meaning g.F.Device.device c.args.self.now p c.self.view_is d numbers
+    (c.in-Some-closed.die, c.in-Some-closed.field-0-1) c.erased-in-Some-closed.result reply.result
     c.in-None.is c.in-Some-closed.is c.erased-in-Some-closed.ensures reply.ensures
