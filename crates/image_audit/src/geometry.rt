@@ -30,7 +30,15 @@ impl Model for Geometry {
 
     ghost view = { λ g. record { blocks = g.blocks; pages = g.pages; main_bytes = g.main_bytes; generations = g.generations; span = g.span; sectors = g.sectors; sector_bytes = g.sector_bytes } };
 
-    ghost invariant = { λ g. IsFitting (record { blocks = g.blocks; pages = g.pages; main_bytes = g.main_bytes; generations = g.generations; span = g.span; sectors = g.sectors; sector_bytes = g.sector_bytes }) };
+    ghost invariant = { λ g. IsFitting (record {
+      blocks = g.blocks;
+      pages = g.pages;
+      main_bytes = g.main_bytes;
+      generations = g.generations;
+      span = g.span;
+      sectors = g.sectors;
+      sector_bytes = g.sector_bytes;
+    }) };
 }
 
 impl Geometry {
