@@ -53,14 +53,15 @@ first_target page header old target blank same spare room = record {
     zeros : spare_of old page ≡ replicate (length (page_of old page) - old.shape.main_bytes) 0
     zeros = blank_spare page old blank
 
--- main bytes that carry the sector
+-- main bytes that the first code gives for the sector
 pub put_first_ends : (meaning : Meaning) (page : ℕ) (header : Header) (sector : List ℕ) (old new : DieState) (target : List ℕ)
     → IsTarget (first_slot page) header old target → new.shape ≡ old.shape → OnlyPage page old new → Reaches (page_of old page) (page_of new page) target (gate_cell_of old.shape.main_bytes 0)
     → meaning.page_bytes ≡ old.shape.main_bytes → meaning.decoding.first_gives (take old.shape.main_bytes target) sector ≡ true
     → Puts (FirstGives meaning page sector) 1 (first_slot page) header old new
-put_first_ends meaning page header sector old new target t shape only reaches bytes carries =
+put_first_ends meaning page header sector old new target t shape only reaches bytes gives =
     put_ends (FirstGives meaning page sector) 1 (first_slot page) header old old new target (omega arith) (midway_none (first_slot page) old) t shape only reaches
-    (ap (λ (main : List ℕ). meaning.decoding.first_gives main sector) (ap₂ (λ (n : ℕ) (row : List ℕ). take n row) bytes (done_here page _ old) ∙ charge_main old.shape.main_bytes target (128 * 0)) ∙ carries)
+    (ap (λ (main : List ℕ). meaning.decoding.first_gives main sector)
+    (ap₂ (λ (n : ℕ) (row : List ℕ). take n row) bytes (done_here page _ old) ∙ charge_main old.shape.main_bytes target (128 * 0)) ∙ gives)
 
 -- The first write of a sector in a buffer of n bytes, of which m are main bytes.
 pub record IsFirstWrite (page : ℕ) (header : Header) (old : DieState) (written : List ℕ) (m n : ℕ) : Type 0 where
@@ -83,12 +84,12 @@ pub first_write_puts : (meaning : Meaning) (page : ℕ) (header : Header) (secto
     → meaning.page_bytes ≡ m → meaning.decoding.first_gives (take m written) sector ≡ true → target ≡ written → cell ≡ gate_cell_of m 0
     → new.shape ≡ old.shape → OnlyPage page old new → Reaches (page_of old page) (page_of new page) target cell
     → Puts (FirstGives meaning page sector) 1 (first_slot page) header old new
-first_write_puts meaning page header sector old new written target m n cell w bytes carries same gate shape only reaches =
+first_write_puts meaning page header sector old new written target m n cell w bytes gives same gate shape only reaches =
     put_first_ends meaning page header sector old new written (write_target page header old written m n w) shape only
     (subst (λ (t : List ℕ). Reaches (page_of old page) (page_of new page) t (gate_cell_of old.shape.main_bytes 0)) same
     (subst (Reaches (page_of old page) (page_of new page) target) (cell_there old m cell w.bytes gate) reaches))
     (bytes ∙ sym w.bytes)
-    (ap (λ (k : ℕ). meaning.decoding.first_gives (take k written) sector) w.bytes ∙ carries)
+    (ap (λ (k : ℕ). meaning.decoding.first_gives (take k written) sector) w.bytes ∙ gives)
 
 pub first_write_gated : (page : ℕ) (header : Header) (old new : DieState) (written target : List ℕ) (m n cell : ℕ) → IsFirstWrite page header old written m n
     → target ≡ written → cell ≡ gate_cell_of m 0 → new.shape ≡ old.shape → page_of new page ≡ charge target cell → is_gated new (first_slot page) ≡ true

@@ -79,6 +79,7 @@ put_ends Content span place header old mid new target one m t shape only reaches
   above = λ page. above_at page (cases_eq page place.page);
   below = λ page. below_at page (cases_eq page place.page);
   whole = λ gated page. whole_at gated page (cases_eq page place.page);
+  order = inr (λ page after within. stays page (λ e. omega arith));
 }
   where
     whole : List ℕ
@@ -86,6 +87,9 @@ put_ends Content span place header old mid new target one m t shape only reaches
 
     done : ℕ → List ℕ
     done = done_with place.page (charge target (gate_cell_of old.shape.main_bytes place.slot)) mid
+
+    stays : (page : ℕ) → page ≢ place.page → page_of new page ≡ done page
+    stays page apart = only.others page apart ∙ sym (done_else place.page whole mid page apart)
 
     apart_outside : (page : ℕ) → (page < place.page) ⊎ (place.page + span ≤ page) → page ≢ place.page
     apart_outside page (inl before) = λ e. omega arith
@@ -99,7 +103,7 @@ put_ends Content span place header old mid new target one m t shape only reaches
     ])
 
     below_at : (page : ℕ) → (page ≡ place.page) ⊎ (page ≢ place.page) → IsAbove (done page) (page_of new page)
-    below_at page (inr apart) = subst (λ (row : List ℕ). IsAbove row (page_of new page)) (only.others page apart ∙ sym (done_else place.page _ mid page apart)) (above_refl (page_of new page))
+    below_at page (inr apart) = subst (λ (row : List ℕ). IsAbove row (page_of new page)) (stays page apart) (above_refl (page_of new page))
     below_at page (inl same) = subst (λ (q : ℕ). IsAbove (done q) (page_of new q)) (sym same) (subst (λ (row : List ℕ). IsAbove row (page_of new place.page)) (sym (done_here place.page _ mid)) (elim reaches [
       | inl between ↦ above_trans _ _ _ (charge_target place header old target t) between.below
       | inr all ↦ subst (IsAbove (charge target (gate_of place old))) (sym all) (above_refl _)
@@ -114,7 +118,7 @@ put_ends Content span place header old mid new target one m t shape only reaches
     ]
 
     whole_at : is_gated new place ≡ true → (page : ℕ) → (page ≡ place.page) ⊎ (page ≢ place.page) → page_of new page ≡ done page
-    whole_at gated page (inr apart) = only.others page apart ∙ sym (done_else place.page _ mid page apart)
+    whole_at gated page (inr apart) = stays page apart
     whole_at gated page (inl same) = subst (λ (q : ℕ). page_of new q ≡ done q) (sym same) (all_there gated ∙ sym (done_here place.page _ mid))
 
 -- the gate is charged where both calls answered Ok

@@ -70,6 +70,7 @@ put_torn Content place header old new further target shape only between spare t 
   ];
   whole = λ gated. absurd (false≢true (sym t.ungated ∙ (ap (λ (row : List ℕ). is_gate_charged (drop old.shape.main_bytes row) place.slot) (sym same_first)
       ∙ (ap (λ (s : Shape). is_gate_charged (drop s.main_bytes (page_of new place.page)) place.slot) (sym shape) ∙ gated))));
+  order = inl same_first;
 }
   where
     done : ℕ → List ℕ

@@ -46,7 +46,8 @@ HasMain main_bytes span page unit done = flat_map (λ p. take main_bytes (done p
 -- how a later write of a unit ends: carried, declined without a change, with a failed read or with a failed change call
 abbrev pub SecondEnds : Meaning → Place → Header → List ℕ → Result Carry PutFault → DieState → DieState → Type 0
 SecondEnds meaning place header sector (Ok Carried) old new =
-    Puts (SecondGives meaning place.page (unit_main old meaning.span place.page) sector) meaning.span place header old new × (is_gated new place ≡ true) × Passed (meaning.span + 1) meaning.span old new
+    Puts (SecondGives meaning place.page (unit_main old meaning.span place.page) sector) meaning.span place header old new
+    × (is_gated new place ≡ true) × Passed (meaning.span + 1) meaning.span old new
 SecondEnds meaning place header sector (Ok Declined) old new =
     SameCells old new × NoneCarries meaning (unit_main old meaning.span place.page) sector × Passed 0 meaning.span old new
 SecondEnds meaning place header sector (Err Read) old new = SameCells old new × ReadFailed 0 meaning.span old new

@@ -30,7 +30,7 @@ fn write_first<C: Scheme>(
     requires least_kind { 1 ≤ header.now.kind }
     requires greatest_kind { header.now.kind ≤ 4 }
     ensures long { length page.new ≡ length page.old }
-    ensures carries { (C.meaning scheme.old).decoding.first_gives (take main_bytes page.new) sector.now ≡ true }
+    ensures gives { (C.meaning scheme.old).decoding.first_gives (take main_bytes page.new) sector.now ≡ true }
     ensures spare { drop main_bytes page.new ≡ with_header (replicate (length page.old - main_bytes) 0) 0 header.now }
     ensures same { C.meaning scheme.new ≡ C.meaning scheme.old }
 {

@@ -222,7 +222,7 @@ fn put_over<D: Die, C: Scheme>(
 /// to the first, the first one with a header of kind 1 in a further slot, and then charges the gate of that slot.
 ///
 /// `Declined` and `PutFault::Read` say that nothing was changed. After `PutFault::Change` the gate is not charged and the unit
-/// has some of the cells of the write, or all of it stands.
+/// has some of the cells of the write, its first page none while a further one lacks some, or all of it stands.
 pub fn put_second<D: Die, C: Scheme>(
     die: &mut D,
     scheme: &mut C,

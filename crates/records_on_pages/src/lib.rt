@@ -13,4 +13,6 @@ mod page_zero;
 #[cfg(test)]
 mod sectors;
 #[cfg(test)]
+mod units;
+#[cfg(test)]
 mod writes;
