@@ -9,6 +9,7 @@ pub mod NoneOver
 pub mod OfferLemmas
 pub mod OverLemmas
 pub mod RowLemmas
+pub mod SolutionTests
 pub mod SumLemmas
 pub mod TurnLemmas
 pub mod UnitLemmas

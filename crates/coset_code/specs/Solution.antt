@@ -1,14 +1,23 @@
 -- The free cells of a row, and the one set of them that is charged for a sum.
-use Rattle.std.specs.Prelude.{◌≡◌, ℕ, ◌<◌, Bool, true, false, List, length, slice_index}
+use Rattle.std.specs.Prelude.{◌≡◌, ℕ, ◌<◌, Bool, true, false, not, ◌||◌, List, length, slice_index}
+use Rattle.std.specs.List.{list_all, range_with_len}
 use Rattle.gf2_solve.specs.Family.{Family}
 use Rattle.gf2_solve.specs.Span.{IsSpanned}
 use Rattle.wom_code.specs.Cells.{cell_at, IsAbove}
-use Rattle.coset_code.specs.Sums.{syndrome, IsFreeSum}
+use Rattle.coset_code.specs.Sums.{syndrome, IsFreeSum, is_free_sum}
 
 -- no newly charged cell has a column that is a sum of columns of free cells with lower numbers; free cells are the uncharged ones
 abbrev pub IsBasisSolution : List ℕ → List Bool → List Bool → Type 0
 IsBasisSolution columns old new =
     (cell : ℕ) → cell_at old cell ≡ false → cell_at new cell ≡ true → ¬ (IsFreeSum columns old cell (slice_index columns cell))
+
+-- the cell was charged before, or is not charged now, or its column is no sum of columns of free cells with lower numbers
+abbrev pub is_basis_cell : List ℕ → List Bool → List Bool → ℕ → Bool
+is_basis_cell columns old new cell = cell_at old cell || not (cell_at new cell) || not (is_free_sum columns old cell (slice_index columns cell))
+
+-- whether no newly charged cell has a column that is such a sum
+unfoldable pub is_basis_solution : List ℕ → List Bool → List Bool → Bool
+is_basis_solution columns old new = list_all (is_basis_cell columns old new) (range_with_len 0 (length columns))
 
 -- of rows with one sum, at most one is the old cells and a basis solution
 abbrev pub AtMostOneBasisSolution : List ℕ → List Bool → Type 0

@@ -1,5 +1,5 @@
 -- Sums over GF(2) of columns of cells.
-use Rattle.std.specs.Prelude.{◌≡◌, ℕ, zero, suc, ◌⊎◌, Bool, false, if◌then◌else◌, List, length, map, slice_index, nat_eq, bit_xor}
+use Rattle.std.specs.Prelude.{◌≡◌, ℕ, zero, suc, ◌⊎◌, ◌==◌, Bool, false, not, ◌&&◌, ◌||◌, if◌then◌else◌, List, length, map, slice_index, nat_eq, bit_xor}
 use Rattle.std.specs.Int.{bit_at}
 use Rattle.std.specs.List.{range_with_len}
 use Rattle.wom_code.specs.Cells.{cell_at}
@@ -18,6 +18,11 @@ unfoldable pub IsFreeSum : List ℕ → List Bool → ℕ → ℕ → Type 0
 IsFreeSum columns old zero v = v ≡ 0
 IsFreeSum columns old (suc n) v =
     IsFreeSum columns old n v ⊎ ((cell_at old n ≡ false) × IsFreeSum columns old n (bit_xor (slice_index columns n) v))
+
+-- whether the vector is such a sum
+unfoldable pub is_free_sum : List ℕ → List Bool → ℕ → ℕ → Bool
+is_free_sum columns old zero v = v == 0
+is_free_sum columns old (suc n) v = is_free_sum columns old n v || (not (cell_at old n) && is_free_sum columns old n (bit_xor (slice_index columns n) v))
 
 -- the lowest k bits of a number
 unfoldable pub bits_of : ℕ → ℕ → List Bool

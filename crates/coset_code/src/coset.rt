@@ -5,7 +5,7 @@ ghost use Rattle.std.specs.Prelude.{◌≡◌, ℕ, ◌<◌, ◌≤◌, ◌^◌,
 ghost use Rattle.wom_code.specs.Cells.{Carries, NoneCarries};
 ghost use Rattle.wom_code.specs.Packed.{IsRow, cells_of, words_for};
 ghost use Rattle.coset_code.specs.Code.{coset_message, IsShape};
-ghost use Rattle.coset_code.specs.Solution.{IsBasisSolution};
+ghost use Rattle.coset_code.specs.Solution.{is_basis_solution};
 ghost use Rattle.coset_code.specs.Refusal.{IsMade};
 ghost use Rattle.coset_code.specs.Words.{columns_from};
 
@@ -179,7 +179,7 @@ impl<const K: usize, const N: usize> Coset<K, N> {
 impl<const K: usize, const N: usize> WomCode<K, N> for Coset<K, N> {
     ghost decoding = { coset_message K };
 
-    ghost gives = { λ code old message new. IsBasisSolution code old new };
+    ghost gives = { λ code old message new. is_basis_solution code old new };
 
     fn decode(&self, cells: &[bool], msg: &mut [bool]) {
         write_bits(sum_of(&self.columns, cells), msg);

@@ -10,7 +10,7 @@ mod solve;
 mod turned;
 
 pub use coset::{Columns, Coset, CosetRefusal, OutOfMemory};
-pub use laws::basis_solution_is_unique;
+pub use laws::{basis_solution_is_unique, basis_solutions_are_tested, free_sums_are_tested};
 
 #[cfg(test)]
 mod tests;

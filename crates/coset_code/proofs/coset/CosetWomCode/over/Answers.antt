@@ -5,6 +5,7 @@ use Rattle.wom_code.specs.Cells.{Carries}
 use Rattle.wom_code.specs.Packed.{cells_of}
 use Rattle.coset_code.specs.Code.{coset_message, WentOver}
 use Rattle.coset_code.proofs.MidwayLemmas.{all_written}
+use Rattle.coset_code.proofs.SolutionTests.{solution_given}
 use Rattle.coset_code.proofs.coset.CosetWomCode.over.Goals as goal
 
 -- the same cells by other names
@@ -32,3 +33,18 @@ returns-clause-carried g c = λ is.
     let new : cells_of (length columns) c.go-carry.new.out ≡ c.unpack.new.cells =
     ap (λ n. cells_of n c.go-carry.new.out) out_len ∙ sym (c.unpack.ensures ∙ ap (cells_of (length c.args.out.now)) same_out) in
     moved k columns _ _ _ _ _ _ _ (search rules) old message new went.1
+
+pub returns-clause-given : goal.returns-clause-given
+returns-clause-given g c = λ is.
+    let k : ℕ = g.row.K in
+    let columns : List ℕ = c.deref.result.now in
+    let went : WentOver Carried k (length columns) columns c.deref-3.result.now c.deref-4.result.now c.deref_mut-4.result.now c.go-carry.new.out = search rules in
+    let same : c.deref-3.result.now ≡ c.pack.new.words = c.deref-3.ensures.value ∙ all_written _ c.pack.new.words _ (search rules) in
+    let len : length columns ≡ length c.args.old.now = search rules in
+    let old : cells_of (length columns) c.deref-3.result.now ≡ c.args.old.now =
+    ap (λ n. cells_of n c.deref-3.result.now) len ∙ ap (cells_of (length c.args.old.now)) same ∙ c.pack.ensures.cells in
+    let same_out : c.deref-5.result.now ≡ c.go-carry.new.out = c.deref-5.ensures.value ∙ all_written _ c.go-carry.new.out _ (search rules) in
+    let out_len : length columns ≡ length c.args.out.now = search rules in
+    let new : cells_of (length columns) c.go-carry.new.out ≡ c.unpack.new.cells =
+    ap (λ n. cells_of n c.go-carry.new.out) out_len ∙ sym (c.unpack.ensures ∙ ap (cells_of (length c.args.out.now)) same_out) in
+    solution_given columns _ _ _ _ _ (search rules) old new went.2
