@@ -1,21 +1,26 @@
 -- Chunks of seven cells side by side: four first words joined, and one more chunk above the earlier ones.
-use Rattle.std.proofs.Common.{◌≡◌, ℕ, zero, suc, ◌+◌, ◌-◌, ◌*◌, ◌/◌, ◌%◌, ◌^◌, ◌<◌, ◌≤◌, Bool, true, List, [], ◌∷◌, length, get_or, bit_and, bit_or, sym, ◌∙◌, ap, ap₂, subst, refl, inl, inr, arith}
+use Rattle.std.proofs.Common.{◌≡◌, ℕ, zero, suc, ◌+◌, ◌-◌, ◌*◌, ◌/◌, ◌%◌, ◌^◌, ◌<◌, ◌≤◌, Bool, true, ◌&&◌, List, [], ◌∷◌, length, get_or, bit_and, bit_or, sym, ◌∙◌, ap, ap₂, subst, refl, inl, inr, arith}
 use Rattle.std.specs.Int.{bit_at}
-use Rattle.std.proofs.lemmas.Bool.{cases_lt, cases_eq}
+use Rattle.std.proofs.lemmas.Bool.{and_parts, cases_lt, cases_eq}
 use Rattle.std.proofs.lemmas.Nat.{and_mask, le_or_l, le_or_r, or_lt}
 use Rattle.std.proofs.lemmas.Nat.Bits.{bit_at-zero}
 use Rattle.cell_bits.proofs.PieceLemmas.{piece_bit, masked_narrow}
 use Rattle.wom_code.specs.Cells.{cell_at, Carries, NoneCarries}
 use Rattle.wom_code.specs.Packed.{cells_of}
 use Rattle.wom_code.specs.Groups.{chunk_of}
-use Rattle.wom_code.proofs.GroupLemmas.{length-chunk_of, same_chunk_of, first_word, one_chunk, joined_with, joined_narrow, joined_earlier, joined_last, carries_as, none_as}
+use Rattle.wom_code.proofs.GroupLemmas.{length-chunk_of, same_chunk_of, first_word, one_chunk, joined_with, joined_narrow, joined_earlier, joined_last, none_as}
 use Rattle.wom_code.proofs.WordTests.{same, same_to, carries_test, carries_to, all_rows, all_rows_at}
 use Rattle.rivest_shamir.proofs.TripleLemmas.{chunk_in_front}
 use Rattle.rivest_shamir.proofs.WordForms.{Form, given, masked, either, up, Bit, bit, value, lifted}
 use Rattle.rivest_shamir.specs.Words.{differ}
 use Rattle.hamming_seven.specs.declared.tables.TheConstants.{NEXT}
-use Rattle.hamming_seven.specs.Words.{message_of, first_of}
+use Rattle.hamming_seven.specs.Words.{message_of, first_of, is_first}
 use Rattle.hamming_seven.proofs.TableLemmas.{none_at, entry_at}
+
+-- what a chunk is given where it does not decline
+pub record IsGiven (cells message new : List Bool) : Type 0 where
+  pub carries : Carries message_of cells message new
+  pub first : is_first cells message new ≡ true
 
 -- ---- the message of seven cells as sums
 
@@ -82,24 +87,28 @@ messages_of_four messages k first t e h = same_chunk_of 3 (bit_and (messages / 2
 
 -- ---- blank cells
 
-all_first : all_rows 3 (λ message. carries_test message_of (chunk_of 7 0 0) message (first_of message)) ≡ true
-unfolding chunk_of
-all_first = refl
+blank_test : List Bool → Bool
+blank_test message = carries_test message_of (chunk_of 7 0 0) message (first_of message) && is_first (chunk_of 7 0 0) message (first_of message)
 
-first_carries : (message : List Bool) → length message ≡ 3 → Carries message_of (chunk_of 7 0 0) message (first_of message)
-first_carries message e =
-    carries_to message_of (chunk_of 7 0 0) message (first_of message)
-    (all_rows_at 3 (λ row. carries_test message_of (chunk_of 7 0 0) row (first_of row)) all_first message e)
+all_blank : all_rows 3 blank_test ≡ true
+unfolding chunk_of is_first blank_test
+all_blank = refl
+
+first_given : (message : List Bool) → length message ≡ 3 → IsGiven (chunk_of 7 0 0) message (first_of message)
+unfolding blank_test
+first_given message e =
+    let parts = and_parts (carries_test message_of (chunk_of 7 0 0) message (first_of message)) (is_first (chunk_of 7 0 0) message (first_of message)) (all_rows_at 3 blank_test all_blank message e) in
+    record { carries = carries_to message_of (chunk_of 7 0 0) message (first_of message) parts.0; first = parts.1 }
 
 no_cells : (t : ℕ) → chunk_of 7 0 t ≡ chunk_of 7 0 0
 no_cells t = same_chunk_of 7 0 0 t 0 (λ c l. bit_at-zero (t * 7 + c) ∙ sym (bit_at-zero (0 * 7 + c)))
 
-pub blank_carried : (count cells messages words front : ℕ) → cells ≡ 0 → ((t : ℕ) → t < 9 → chunk_of 7 words t ≡ first_of (chunk_of 3 messages t)) → count ≤ 9 → front ≡ 2 ^ (count * 7) - 1 →
-    (t : ℕ) → t < count → Carries message_of (chunk_of 7 cells t) (chunk_of 3 messages t) (chunk_of 7 (bit_and words front) t)
-blank_carried count cells messages words front none is few e t h =
-    subst (λ old. Carries message_of old (chunk_of 3 messages t) (chunk_of 7 (bit_and words front) t)) (sym (ap (λ w. chunk_of 7 w t) none ∙ no_cells t))
-    (subst (Carries message_of (chunk_of 7 0 0) (chunk_of 3 messages t)) (sym (chunk_in_front 7 count words front t e h ∙ is t (omega arith)))
-    (first_carries (chunk_of 3 messages t) (length-chunk_of 3 messages t)))
+pub blank_given : (count cells messages words front : ℕ) → cells ≡ 0 → ((t : ℕ) → t < 9 → chunk_of 7 words t ≡ first_of (chunk_of 3 messages t)) → count ≤ 9 → front ≡ 2 ^ (count * 7) - 1 →
+    (t : ℕ) → t < count → IsGiven (chunk_of 7 cells t) (chunk_of 3 messages t) (chunk_of 7 (bit_and words front) t)
+blank_given count cells messages words front none is few e t h =
+    subst (λ old. IsGiven old (chunk_of 3 messages t) (chunk_of 7 (bit_and words front) t)) (sym (ap (λ w. chunk_of 7 w t) none ∙ no_cells t))
+    (subst (IsGiven (chunk_of 7 0 0) (chunk_of 3 messages t)) (sym (chunk_in_front 7 count words front t e h ∙ is t (omega arith)))
+    (first_given (chunk_of 3 messages t) (length-chunk_of 3 messages t)))
 
 -- ---- one chunk by the table
 
@@ -127,11 +136,13 @@ message_is messages j = one_chunk 3 (message_in messages j) messages j (omega ar
 alone : (word : ℕ) → cells_of 7 (word ∷ []) ≡ chunk_of 7 word 0
 alone word = one_chunk 7 word word 0 (omega arith) (λ i h. let e : i ≡ 0 * 7 + i = omega arith in ap (bit_at word) e)
 
-pub next_carried : (cells messages j : ℕ) → next_in cells messages j < 128 →
-    Carries message_of (chunk_of 7 cells j) (chunk_of 3 messages j) (chunk_of 7 (next_in cells messages j) 0)
-next_carried cells messages j h =
-    carries_as message_of message_of _ _ _ _ _ _ (λ row. refl) (cells_are cells j) (message_is messages j) (alone (next_in cells messages j))
-    (entry_at (cells_in cells j) (message_in messages j) (cells_below cells j) (message_below messages j) (λ e. omega arith)).carries
+given_as : (old old' message message' new new' : List Bool) → old ≡ old' → message ≡ message' → new ≡ new' → IsGiven old message new → IsGiven old' message' new'
+given_as old old' message message' new new' o m n is = subst (λ a. IsGiven a message' new') o (subst (λ b. IsGiven old b new') m (subst (IsGiven old message) n is))
+
+pub next_given : (cells messages j : ℕ) → next_in cells messages j < 128 → IsGiven (chunk_of 7 cells j) (chunk_of 3 messages j) (chunk_of 7 (next_in cells messages j) 0)
+next_given cells messages j h =
+    let entry = entry_at (cells_in cells j) (message_in messages j) (cells_below cells j) (message_below messages j) (λ e. omega arith) in
+    given_as _ _ _ _ _ _ (cells_are cells j) (message_is messages j) (alone (next_in cells messages j)) (record { carries = entry.carries; first = entry.given })
 
 pub next_declined : (cells messages j : ℕ) → next_in cells messages j ≡ 128 → NoneCarries message_of 7 (chunk_of 7 cells j) (chunk_of 3 messages j)
 next_declined cells messages j e =
@@ -148,30 +159,30 @@ next_small cells messages j = elim (cases_eq (next_in cells messages j) 128) [
 
 pub record IsCarried (cells messages done new : ℕ) : Type 0 where
   pub narrow : new < 2 ^ (done * 7)
-  pub each : (i : ℕ) → i < done → Carries message_of (chunk_of 7 cells i) (chunk_of 3 messages i) (chunk_of 7 new i)
+  pub each : (i : ℕ) → i < done → IsGiven (chunk_of 7 cells i) (chunk_of 3 messages i) (chunk_of 7 new i)
 
 abbrev pub OneDeclines : ℕ → ℕ → ℕ → Type 0
 OneDeclines cells messages done = (i : ℕ) × (i < done) × NoneCarries message_of 7 (chunk_of 7 cells i) (chunk_of 3 messages i)
 
-one_more : (cells messages j new next : ℕ) → j < 9 → IsCarried cells messages j new → next < 128 → Carries message_of (chunk_of 7 cells j) (chunk_of 3 messages j) (chunk_of 7 next 0) →
+one_more : (cells messages j new next : ℕ) → j < 9 → IsCarried cells messages j new → next < 128 → IsGiven (chunk_of 7 cells j) (chunk_of 3 messages j) (chunk_of 7 next 0) →
     IsCarried cells messages (j + 1) (joined_with new (j * 7) next)
-one_more cells messages j new next h before small carries =
+one_more cells messages j new next h before small is =
     let within : j * 7 + 7 ≤ 64 = omega arith in
     record {
       narrow = joined_narrow 7 j new next before.narrow small within;
       each = λ i l. elim (cases_lt i j) [
         | inl earlier ↦
-            subst (Carries message_of (chunk_of 7 cells i) (chunk_of 3 messages i)) (sym (joined_earlier 7 j new next i before.narrow small within earlier)) (before.each i earlier)
+            subst (IsGiven (chunk_of 7 cells i) (chunk_of 3 messages i)) (sym (joined_earlier 7 j new next i before.narrow small within earlier)) (before.each i earlier)
         | inr m ↦
             let e : j ≡ i = omega arith in
-            subst (λ x. Carries message_of (chunk_of 7 cells x) (chunk_of 3 messages x) (chunk_of 7 (joined_with new (j * 7) next) x)) e
-            (subst (Carries message_of (chunk_of 7 cells j) (chunk_of 3 messages j))
-            (sym (joined_last 7 j new next (next ∷ []) before.narrow small within (λ k b. sym (first_word (next ∷ []) k (omega arith))) ∙ alone next)) carries)
+            subst (λ x. IsGiven (chunk_of 7 cells x) (chunk_of 3 messages x) (chunk_of 7 (joined_with new (j * 7) next) x)) e
+            (subst (IsGiven (chunk_of 7 cells j) (chunk_of 3 messages j))
+            (sym (joined_last 7 j new next (next ∷ []) before.narrow small within (λ k b. sym (first_word (next ∷ []) k (omega arith))) ∙ alone next)) is)
       ];
     }
 
 pub more_carried : (cells messages j new any next : ℕ) → j < 9 → (any < 128 → IsCarried cells messages j new) →
-    (next < 128 → Carries message_of (chunk_of 7 cells j) (chunk_of 3 messages j) (chunk_of 7 next 0)) →
+    (next < 128 → IsGiven (chunk_of 7 cells j) (chunk_of 3 messages j) (chunk_of 7 next 0)) →
     bit_or any next < 128 → IsCarried cells messages (j + 1) (joined_with new (j * 7) next)
 more_carried cells messages j new any next h before now below =
     let l : any ≤ bit_or any next = le_or_l any next in

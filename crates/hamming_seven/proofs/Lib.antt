@@ -1,4 +1,5 @@
 pub mod ChunkLemmas
 pub mod FirstTable
+pub mod FirstTest
 pub mod StageLemmas
 pub mod TableLemmas

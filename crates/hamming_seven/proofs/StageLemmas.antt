@@ -6,13 +6,14 @@ use Rattle.wom_code.specs.Packed.{cells_of}
 use Rattle.wom_code.proofs.PackedLemmas.{length-cells_of}
 use Rattle.wom_code.proofs.WordTests.{same, same_self, same_to, carries_test, carries_from, all_rows, all_rows_at}
 use Rattle.hamming_seven.specs.Stages.{blank, IsStageOne, IsStageTwo}
-use Rattle.hamming_seven.specs.Words.{message_of, sum_from, added_from, comes_before, IsFirst}
+use Rattle.hamming_seven.specs.Words.{message_of, sum_from, added_from, comes_before, is_first}
+use Rattle.hamming_seven.proofs.FirstTest.{first_to}
 use Rattle.hamming_seven.proofs.TableLemmas.{word7, message3, next_at, entry_at}
 
 -- the message is carried over the old cells, by cells at this stage
 pub record Leaves (old message : List Bool) (stage : List Bool → Type 0) : Type 0 where
   pub carried : NoneCarries message_of 7 old message → ⊥
-  pub leaves : (new : List Bool) → length new ≡ 7 → Carries message_of old message new → IsFirst old message new → stage new
+  pub leaves : (new : List Bool) → length new ≡ 7 → Carries message_of old message new → is_first old message new ≡ true → stage new
 
 -- ---- words by their numbers
 
@@ -89,10 +90,10 @@ carried_at : (w m : ℕ) → w < 128 → m < 8 → next_at w m < 128 → NoneCar
 unfolding word7 message3 next_at
 carried_at w m h i l none = none _ (length-cells_of 7 (next_at w m ∷ [])) (entry_at w m h i (λ e. omega arith)).carries
 
-is_first : (w m : ℕ) (new : List Bool) → (word7 (next_at w m) ≡ new) ⊎ (comes_before (added_from 0 (word7 w) new) (added_from 0 (word7 w) (word7 (next_at w m))) ≡ true) → first_test w m new ≡ true
+first_passes : (w m : ℕ) (new : List Bool) → (word7 (next_at w m) ≡ new) ⊎ (comes_before (added_from 0 (word7 w) new) (added_from 0 (word7 w) (word7 (next_at w m))) ≡ true) → first_test w m new ≡ true
 unfolding first_test
-is_first w m new (inl e) = or_left _ _ (subst (λ n. same (word7 (next_at w m)) n ≡ true) e (same_self (word7 (next_at w m))))
-is_first w m new (inr b) = or_right _ _ b
+first_passes w m new (inl e) = or_left _ _ (subst (λ n. same (word7 (next_at w m)) n ≡ true) e (same_self (word7 (next_at w m))))
+first_passes w m new (inr b) = or_right _ _ b
 
 leaves_at : (stage : List Bool → Bool) (P : List Bool → Type 0) → ((cells : List Bool) → stage cells ≡ true → P cells) →
     (w m : ℕ) → w < 128 → m < 8 → leaves_test stage w m ≡ true → Leaves (word7 w) (message3 m) P
@@ -108,7 +109,7 @@ leaves_at stage P to w m h i t =
           elim (or_cases _ _ u) [
             | inl a ↦ absurd (true≢false (sym (carries_from message_of _ _ new c) ∙ not-true _ a))
             | inr b ↦ elim (or_cases _ _ b) [
-              | inl d ↦ absurd (true≢false (sym (is_first w m new (f _ (length-cells_of 7 (next_at w m ∷ [])) entry.carries)) ∙ not-true _ d))
+              | inl d ↦ absurd (true≢false (sym (first_passes w m new (first_to (word7 w) (message3 m) new f _ (length-cells_of 7 (next_at w m ∷ [])) entry.carries)) ∙ not-true _ d))
               | inr s ↦ to new s
             ]
           ];

@@ -6,7 +6,8 @@ use Rattle.wom_code.specs.Packed.{cells_of}
 use Rattle.wom_code.proofs.WordTests.{same, same_to, carries_test, carries_from, carries_to, all_rows, all_rows_at}
 use Rattle.wom_code.proofs.TableCodes.{IsEntry}
 use Rattle.hamming_seven.specs.declared.tables.TheConstants.{MESSAGE, NEXT}
-use Rattle.hamming_seven.specs.Words.{message_of, added_from, comes_before, IsFirst}
+use Rattle.hamming_seven.specs.Words.{message_of, added_from, comes_before, is_first}
+use Rattle.hamming_seven.proofs.FirstTest.{first_from}
 
 -- ---- the tables
 
@@ -100,7 +101,7 @@ none_at w m h i e new len c =
     let f = not-true _ (all_rows_at 7 (λ n. not (carries_test message_of (word7 w) (message3 m) n)) t new len) in
     true≢false (sym (carries_from message_of _ _ new c) ∙ f)
 
-pub entry_at : (w m : ℕ) → w < 128 → m < 8 → (get_or (get_or NEXT m []) w 0 ≡ 128 → ⊥) → IsEntry message_of IsFirst 3 7 w m (get_or (get_or NEXT m []) w 0)
+pub entry_at : (w m : ℕ) → w < 128 → m < 8 → (get_or (get_or NEXT m []) w 0 ≡ 128 → ⊥) → IsEntry message_of is_first 3 7 w m (get_or (get_or NEXT m []) w 0)
 unfolding word7 message3 next_at first_test entry_test
 entry_at w m h i n =
     let next : ℕ = next_at w m in
@@ -111,9 +112,9 @@ entry_at w m h i n =
     record {
       word = ltb-true next 128 parts.0;
       carries = carries_to message_of _ _ _ rest.0;
-      given = λ cells len c.
+      given = first_from (word7 w) (message3 m) (word7 next) (λ cells len c.
           let u = all_rows_at 7 (λ new. not (carries_test message_of (word7 w) (message3 m) new) || (same new (word7 next) || comes_before (added_from 0 (word7 w) (word7 next)) (added_from 0 (word7 w) new))) rest.1 cells len in
           let other : (same cells (word7 next) || comes_before (added_from 0 (word7 w) (word7 next)) (added_from 0 (word7 w) cells)) ≡ true =
           elim (or_cases _ _ u) [ inl v ↦ absurd (true≢false (sym (carries_from message_of _ _ cells c) ∙ not-true _ v)) | inr v ↦ v ] in
-          elim (or_cases _ _ other) [ inl v ↦ inl (same_to _ _ v) | inr v ↦ inr v ];
+          elim (or_cases _ _ other) [ inl v ↦ inl (same_to _ _ v) | inr v ↦ inr v ]);
     }

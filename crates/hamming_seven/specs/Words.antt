@@ -1,8 +1,10 @@
 -- Three bits in seven cells.
-use Rattle.std.specs.Prelude.{◌≡◌, ℕ, ◌+◌, ◌⊎◌, Bool, true, false, not, ◌&&◌, if◌then◌else◌, List, [], ◌∷◌, length, map, nat_eq, nat_lt, bit_xor, refl}
+use Rattle.std.specs.Prelude.{◌≡◌, ℕ, ◌+◌, ◌⊎◌, Bool, true, false, not, ◌&&◌, ◌||◌, if◌then◌else◌, List, [], ◌∷◌, length, map, nat_eq, nat_lt, bit_xor, refl}
 use Rattle.std.proofs.Common.{arith}
 use Rattle.std.specs.Int.{bit_at}
+use Rattle.std.specs.List.{list_all}
 use Rattle.wom_code.specs.Cells.{cell_at, Carries}
+use Rattle.wom_code.specs.Tests.{is_same, is_carrying, all_rows}
 
 -- the sum over GF(2) of the columns of the charged cells; the first cell has the given column, and each later one the next
 abbrev pub sum_from : ℕ → List Bool → ℕ
@@ -37,6 +39,11 @@ comes_before xs ys = if nat_lt (length xs) (length ys) then true else (if nat_lt
 abbrev pub IsFirst : List Bool → List Bool → List Bool → Type 0
 IsFirst old message new =
     (cells : List Bool) → length cells ≡ 7 → Carries message_of old message cells → (cells ≡ new) ⊎ (comes_before (added_from 0 old new) (added_from 0 old cells) ≡ true)
+
+-- The same as a test: each row of seven cells that carries the message over the old ones is the new one, or adds cells that come later.
+unfoldable pub is_first : List Bool → List Bool → List Bool → Bool
+is_first old message new =
+    list_all (λ cells. not (is_carrying message_of old message cells) || (is_same cells new || comes_before (added_from 0 old new) (added_from 0 old cells))) (all_rows 7)
 
 -- the number whose bits are the message
 abbrev pub column_of : List Bool → ℕ

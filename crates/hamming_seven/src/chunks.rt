@@ -1,10 +1,10 @@
 //! Up to nine chunks of seven cells side by side in one word: chunk `j` has the cells from bit `7 * j` on, and its
 //! message the bits from bit `3 * j` on.
 
-ghost use Rattle.std.specs.Prelude.{◌≡◌, ℕ, ◌+◌, ◌-◌, ◌*◌, ◌≤◌, ◌<◌, ◌^◌, IfSome, IfNone};
+ghost use Rattle.std.specs.Prelude.{◌≡◌, ℕ, ◌+◌, ◌-◌, ◌*◌, ◌≤◌, ◌<◌, ◌^◌, true, IfSome, IfNone};
 ghost use Rattle.wom_code.specs.Cells.{Carries, NoneCarries};
 ghost use Rattle.wom_code.specs.Groups.{chunk_of};
-ghost use Rattle.hamming_seven.specs.Words.{first_of, message_of};
+ghost use Rattle.hamming_seven.specs.Words.{first_of, is_first, message_of};
 
 use crate::first::FIRST;
 use crate::tables::{NEXT, NONE};
@@ -60,6 +60,7 @@ fn first_chunks(messages: u64) -> u64
 fn next_chunk(cells: u64, messages: u64, j: usize) -> u64
     requires { j < 9 }
     ensures carried { result < 128 → Carries message_of (chunk_of 7 cells j) (chunk_of 3 messages j) (chunk_of 7 result 0) }
+    ensures given { result < 128 → is_first (chunk_of 7 cells j) (chunk_of 3 messages j) (chunk_of 7 result 0) ≡ true }
     ensures declined { result ≡ 128 → NoneCarries message_of 7 (chunk_of 7 cells j) (chunk_of 3 messages j) }
     ensures small { result ≤ 128 }
 {
@@ -72,6 +73,7 @@ fn next_chunk(cells: u64, messages: u64, j: usize) -> u64
 fn next_chunks(count: usize, cells: u64, messages: u64) -> Option<u64>
     requires few { count ≤ 9 }
     ensures carried { IfSome result (λ new. (j : ℕ) → j < count → Carries message_of (chunk_of 7 cells j) (chunk_of 3 messages j) (chunk_of 7 new j)) }
+    ensures given { IfSome result (λ new. (j : ℕ) → j < count → is_first (chunk_of 7 cells j) (chunk_of 3 messages j) (chunk_of 7 new j) ≡ true) }
     ensures narrow { IfSome result (λ new. new < 2 ^ (count * 7)) }
     ensures declined { IfNone result ((j : ℕ) × (j < count) × NoneCarries message_of 7 (chunk_of 7 cells j) (chunk_of 3 messages j)) }
 {
@@ -93,6 +95,7 @@ fn next_chunks(count: usize, cells: u64, messages: u64) -> Option<u64>
 pub fn over_chunks(count: usize, cells: u64, messages: u64) -> Option<u64>
     requires few { count ≤ 9 }
     ensures carried { IfSome result (λ new. (j : ℕ) → j < count → Carries message_of (chunk_of 7 cells j) (chunk_of 3 messages j) (chunk_of 7 new j)) }
+    ensures given { IfSome result (λ new. (j : ℕ) → j < count → is_first (chunk_of 7 cells j) (chunk_of 3 messages j) (chunk_of 7 new j) ≡ true) }
     ensures narrow { IfSome result (λ new. new < 2 ^ (count * 7)) }
     ensures declined { IfNone result ((j : ℕ) × (j < count) × NoneCarries message_of 7 (chunk_of 7 cells j) (chunk_of 3 messages j)) }
 {

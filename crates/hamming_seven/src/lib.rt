@@ -2,18 +2,20 @@
 //! charged cells, cell i having column i + 1.
 #![tactic(auto)]
 
-ghost use Rattle.std.specs.Prelude.{◌≡◌, List, Bool, length};
+ghost use Rattle.std.specs.Prelude.{◌≡◌, List, Bool, true, length};
 ghost use Rattle.wom_code.specs.Cells.{Carries, NoneCarries};
 ghost use Rattle.wom_code.specs.Packed.{IsRow, cells_of, words_for};
 ghost use Rattle.hamming_seven.specs.Stages.{blank, IsStageOne, IsStageTwo};
-ghost use Rattle.hamming_seven.specs.Words.{message_of, IsFirst};
+ghost use Rattle.hamming_seven.specs.Words.{message_of, is_first};
 
 mod chunks;
 mod first;
+mod laws;
 mod tables;
 
 use crate::chunks::{decode_chunks, over_chunks};
 use crate::tables::{MESSAGE, NEXT, NONE};
+pub use laws::given_cells_come_first;
 use wom_code::{Carry, FromBlank, PackedCode, WomCode, pack, unpack};
 
 /// Three bits in seven cells. `over` adds the smallest set of cells that carries the message, and of
@@ -31,7 +33,7 @@ impl HammingSeven {
 impl WomCode<3, 7> for HammingSeven {
     ghost decoding = { λ code. message_of };
 
-    ghost gives = { λ code. IsFirst };
+    ghost gives = { λ code. is_first };
 
     fn decode(&self, cells: &[bool], msg: &mut [bool]) {
         let mut cell_row = [0];
@@ -46,10 +48,11 @@ impl WomCode<3, 7> for HammingSeven {
         requires message { length msg.now ≡ 3 }
         requires out { length out.old ≡ 7 }
         ensures carried { result ≡ Carry.Carried → Carries message_of old.now msg.now out.new }
-        ensures given { result ≡ Carry.Carried → IsFirst old.now msg.now out.new }
+        ensures given { result ≡ Carry.Carried → is_first old.now msg.now out.new ≡ true }
         ensures declined { result ≡ Carry.Declined → NoneCarries message_of 7 old.now msg.now }
         ensures kept { result ≡ Carry.Declined → out.new ≡ out.old }
         ensures same_code { (cells : List Bool) → message_of cells ≡ message_of cells }
+        ensures same_cells { (before message after : List Bool) → is_first before message after ≡ is_first before message after }
         ensures first_write { old.now ≡ blank → (result ≡ Carry.Carried) × IsStageOne out.new }
         ensures second_write { IsStageOne old.now → (result ≡ Carry.Carried) × IsStageTwo out.new }
         ensures third_write { IsStageTwo old.now → result ≡ Carry.Carried }
@@ -78,10 +81,11 @@ impl PackedCode<3, 7> for HammingSeven {
         requires out { length out.old ≡ words_for 7 }
         ensures row { result ≡ Carry.Carried → IsRow 7 out.new }
         ensures carried { result ≡ Carry.Carried → Carries message_of (cells_of 7 old.now) (cells_of 3 msg.now) (cells_of 7 out.new) }
-        ensures given { result ≡ Carry.Carried → IsFirst (cells_of 7 old.now) (cells_of 3 msg.now) (cells_of 7 out.new) }
+        ensures given { result ≡ Carry.Carried → is_first (cells_of 7 old.now) (cells_of 3 msg.now) (cells_of 7 out.new) ≡ true }
         ensures declined { result ≡ Carry.Declined → NoneCarries message_of 7 (cells_of 7 old.now) (cells_of 3 msg.now) }
         ensures kept { result ≡ Carry.Declined → out.new ≡ out.old }
         ensures same_code { (cells : List Bool) → message_of cells ≡ message_of cells }
+        ensures same_cells { (before message after : List Bool) → is_first before message after ≡ is_first before message after }
         ensures first_write { cells_of 7 old.now ≡ blank → (result ≡ Carry.Carried) × IsStageOne (cells_of 7 out.new) }
         ensures second_write { IsStageOne (cells_of 7 old.now) → (result ≡ Carry.Carried) × IsStageTwo (cells_of 7 out.new) }
         ensures third_write { IsStageTwo (cells_of 7 old.now) → result ≡ Carry.Carried }

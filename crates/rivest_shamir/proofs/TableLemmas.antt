@@ -6,7 +6,8 @@ use Rattle.wom_code.specs.Packed.{cells_of}
 use Rattle.wom_code.proofs.WordTests.{same, same_to, carries_test, carries_from, carries_to, all_rows, all_rows_at}
 use Rattle.wom_code.proofs.TableCodes.{IsEntry}
 use Rattle.rivest_shamir.specs.declared.TheConstants.{MESSAGE, NEXT}
-use Rattle.rivest_shamir.specs.Words.{message_of, IsLeast}
+use Rattle.rivest_shamir.specs.Words.{message_of, is_least}
+use Rattle.rivest_shamir.proofs.GivenTests.{least_from}
 
 -- ---- the tables
 
@@ -60,7 +61,7 @@ none_at w m h i e new len c =
     let f = not-true _ (all_rows_at 3 (λ n. not (carries_test message_of (word3 w) (message2 m) n)) t new len) in
     true≢false (sym (carries_from message_of _ _ new c) ∙ f)
 
-pub entry_at : (w m : ℕ) → w < 8 → m < 4 → (get_or (get_or NEXT m []) w 0 ≡ 8 → ⊥) → IsEntry message_of IsLeast 2 3 w m (get_or (get_or NEXT m []) w 0)
+pub entry_at : (w m : ℕ) → w < 8 → m < 4 → (get_or (get_or NEXT m []) w 0 ≡ 8 → ⊥) → IsEntry message_of is_least 2 3 w m (get_or (get_or NEXT m []) w 0)
 unfolding word3 message2 next_at least_test entry_test
 entry_at w m h i n =
     let next : ℕ = next_at w m in
@@ -71,8 +72,8 @@ entry_at w m h i n =
     record {
       word = ltb-true next 8 parts.0;
       carries = carries_to message_of _ _ _ rest.0;
-      given = λ cells len c.
+      given = least_from (word3 w) (message2 m) (word3 next) (λ cells len c.
           let u = all_rows_at 3 (λ new. not (carries_test message_of (word3 w) (message2 m) new) || (same new (word3 next) || ltb (charge_of (word3 next)) (charge_of new))) rest.1 cells len in
           let other : (same cells (word3 next) || ltb (charge_of (word3 next)) (charge_of cells)) ≡ true = elim (or_cases _ _ u) [ inl v ↦ absurd (true≢false (sym (carries_from message_of _ _ cells c) ∙ not-true _ v)) | inr v ↦ v ] in
-          elim (or_cases _ _ other) [ inl v ↦ inl (same_to _ _ v) | inr v ↦ inr (ltb-true _ _ v) ];
+          elim (or_cases _ _ other) [ inl v ↦ inl (same_to _ _ v) | inr v ↦ inr (ltb-true _ _ v) ]);
     }

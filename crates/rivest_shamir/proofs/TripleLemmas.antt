@@ -10,7 +10,8 @@ use Rattle.wom_code.proofs.GroupLemmas.{length-chunk_of, get_or-chunk_of, same_c
 use Rattle.wom_code.proofs.WordTests.{same, same_to, carries_test, carries_from, carries_to, all_rows, all_rows_at}
 use Rattle.wom_code.specs.Groups.{chunk_of}
 use Rattle.rivest_shamir.specs.Triples.{odd_of, differ_of, either_of, both_of, others_of, with_sum, least_of}
-use Rattle.rivest_shamir.specs.Words.{message_of, IsLeast}
+use Rattle.rivest_shamir.specs.Words.{message_of, is_least}
+use Rattle.rivest_shamir.proofs.GivenTests.{least_from}
 use Rattle.rivest_shamir.proofs.WordForms.{both, either, apart, given, bit, and, or, sum, lifted}
 
 -- ---- chunks of a word
@@ -93,7 +94,7 @@ triple_declines cells message c m e new len carries =
 -- what a triple is given where it does not decline
 pub record IsGiven (cells message new : List Bool) : Type 0 where
   pub carries : Carries message_of cells message new
-  pub least : IsLeast cells message new
+  pub least : is_least cells message new ≡ true
 
 triple_given : (cells message : List Bool) → length cells ≡ 3 → length message ≡ 2 → some_of (lost_of cells message) ≡ false → IsGiven cells message (new_of cells message)
 unfolding least_test triple_test
@@ -103,11 +104,11 @@ triple_given cells message c m e =
     let parts = and_parts _ _ t in
     record {
       carries = carries_to message_of cells message (new_of cells message) parts.0;
-      least = λ other len carries.
+      least = least_from cells message (new_of cells message) (λ other len carries.
           let u = all_rows_at 3 (λ new. not (carries_test message_of cells message new) || (same new (new_of cells message) || ltb (charge_of (new_of cells message)) (charge_of new))) parts.1 other len in
           let v : (same other (new_of cells message) || ltb (charge_of (new_of cells message)) (charge_of other)) ≡ true =
           elim (or_cases _ _ u) [ inl w ↦ absurd (true≢false (sym (carries_from message_of cells message other carries) ∙ not-true _ w)) | inr w ↦ w ] in
-          elim (or_cases _ _ v) [ inl w ↦ inl (same_to _ _ w) | inr w ↦ inr (ltb-true _ _ w) ];
+          elim (or_cases _ _ v) [ inl w ↦ inl (same_to _ _ w) | inr w ↦ inr (ltb-true _ _ w) ]);
     }
 
 -- ---- all triples of a word

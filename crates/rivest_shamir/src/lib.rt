@@ -2,14 +2,16 @@
 //! the bits b xor c and a xor c; a word carries its message, or else its complement does.
 #![tactic(auto)]
 
-ghost use Rattle.std.specs.Prelude.{◌≡◌, ℕ, ◌*◌, ◌≤◌, ◌<◌, ◌^◌, List, Bool, IfSome, IfNone};
+ghost use Rattle.std.specs.Prelude.{◌≡◌, ℕ, ◌*◌, ◌≤◌, ◌<◌, ◌^◌, List, Bool, true, IfSome, IfNone};
 ghost use Rattle.wom_code.specs.Cells.{Carries, NoneCarries};
 ghost use Rattle.wom_code.specs.Groups.{chunk_of};
-ghost use Rattle.rivest_shamir.specs.Words.{message_of, IsLeast};
+ghost use Rattle.rivest_shamir.specs.Words.{message_of, is_least};
 
+mod laws;
 mod triples;
 
 use crate::triples::{decode_triples, over_triples};
+pub use laws::given_cells_are_least;
 use wom_code::{Carry, FromBlank, PackedCode, WomCode, pack, unpack};
 
 /// The message of each word of three cells; the bit b xor c is bit 0.
@@ -41,7 +43,7 @@ impl RivestShamir {
 impl WomCode<2, 3> for RivestShamir {
     ghost decoding = { λ code. message_of };
 
-    ghost gives = { λ code. IsLeast };
+    ghost gives = { λ code. is_least };
 
     fn decode(&self, cells: &[bool], msg: &mut [bool]) {
         let mut cell_row = [0];
@@ -86,10 +88,11 @@ impl PackedCode<2, 3> for RivestShamir {
     fn over_group(&mut self, count: usize, cells: u64, messages: u64) -> Option<u64>
         requires few { count ≤ 16 }
         ensures carried { IfSome result (λ new. (j : ℕ) → j < count → Carries message_of (chunk_of 3 cells j) (chunk_of 2 messages j) (chunk_of 3 new j)) }
-        ensures given { IfSome result (λ new. (j : ℕ) → j < count → IsLeast (chunk_of 3 cells j) (chunk_of 2 messages j) (chunk_of 3 new j)) }
+        ensures given { IfSome result (λ new. (j : ℕ) → j < count → is_least (chunk_of 3 cells j) (chunk_of 2 messages j) (chunk_of 3 new j) ≡ true) }
         ensures narrow { IfSome result (λ new. new < 2 ^ (count * 3)) }
         ensures declined { IfNone result ((j : ℕ) × (j < count) × NoneCarries message_of 3 (chunk_of 3 cells j) (chunk_of 2 messages j)) }
         ensures same_code { (row : List Bool) → message_of row ≡ message_of row }
+        ensures same_cells { (before message after : List Bool) → is_least before message after ≡ is_least before message after }
     {
         over_triples(count, cells, messages)
     }

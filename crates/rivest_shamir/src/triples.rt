@@ -1,11 +1,11 @@
 //! Up to sixteen words of three cells side by side in one: triple `t` has the cells from bit `3 * t` on, and its
 //! message the bits from bit `2 * t` on. All of them go at once, by operations on whole words.
 
-ghost use Rattle.std.specs.Prelude.{◌≡◌, ℕ, ◌+◌, ◌-◌, ◌*◌, ◌≤◌, ◌<◌, ◌^◌, IfSome, IfNone};
+ghost use Rattle.std.specs.Prelude.{◌≡◌, ℕ, ◌+◌, ◌-◌, ◌*◌, ◌≤◌, ◌<◌, ◌^◌, true, IfSome, IfNone};
 ghost use Rattle.wom_code.specs.Cells.{Carries, NoneCarries};
 ghost use Rattle.wom_code.specs.Groups.{chunk_of};
 ghost use Rattle.rivest_shamir.specs.Triples.{least_of, odd_of, others_of, with_sum};
-ghost use Rattle.rivest_shamir.specs.Words.{message_of, IsLeast};
+ghost use Rattle.rivest_shamir.specs.Words.{message_of, is_least};
 
 /// The first cell of each triple.
 const FIRST: u64 = 0x2492_4924_9249;
@@ -141,7 +141,7 @@ pub fn decode_triples(cells: u64) -> u64
 pub fn over_triples(count: usize, cells: u64, messages: u64) -> Option<u64>
     requires few { count ≤ 16 }
     ensures carried { IfSome result (λ new. (t : ℕ) → t < count → Carries message_of (chunk_of 3 cells t) (chunk_of 2 messages t) (chunk_of 3 new t)) }
-    ensures given { IfSome result (λ new. (t : ℕ) → t < count → IsLeast (chunk_of 3 cells t) (chunk_of 2 messages t) (chunk_of 3 new t)) }
+    ensures given { IfSome result (λ new. (t : ℕ) → t < count → is_least (chunk_of 3 cells t) (chunk_of 2 messages t) (chunk_of 3 new t) ≡ true) }
     ensures narrow { IfSome result (λ new. new < 2 ^ (count * 3)) }
     ensures declined { IfNone result ((t : ℕ) × (t < count) × NoneCarries message_of 3 (chunk_of 3 cells t) (chunk_of 2 messages t)) }
 {

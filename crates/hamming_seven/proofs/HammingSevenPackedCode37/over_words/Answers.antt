@@ -4,7 +4,7 @@ use Rattle.wom_code.specs.Packed.{IsRow, cells_of}
 use Rattle.wom_code.proofs.PackedLemmas.{length-cells_of}
 use Rattle.wom_code.proofs.OneWord.{one_word}
 use Rattle.wom_code.proofs.TableCodes.{IsWritten, entry_written, none_written}
-use Rattle.hamming_seven.specs.Words.{message_of, IsFirst}
+use Rattle.hamming_seven.specs.Words.{message_of, is_first}
 use Rattle.hamming_seven.specs.Stages.{IsStageOne}
 use Rattle.hamming_seven.specs.declared.tables.TheConstants.{NEXT}
 use Rattle.hamming_seven.proofs.TableLemmas.{none_at, entry_at}
@@ -13,9 +13,9 @@ use Rattle.hamming_seven.proofs.HammingSevenPackedCode37.over_words.Goals as goa
 
 written : (old message out : List ℕ) → IsRow 7 old → IsRow 3 message → length out ≡ 1 → get_or old 0 0 < 128 → get_or message 0 0 < 8 →
     (get_or (get_or NEXT (get_or message 0 0) []) (get_or old 0 0) 0 ≡ 128 → ⊥) →
-    IsWritten message_of IsFirst 3 7 old message (set out 0 (get_or (get_or NEXT (get_or message 0 0) []) (get_or old 0 0) 0))
+    IsWritten message_of is_first 3 7 old message (set out 0 (get_or (get_or NEXT (get_or message 0 0) []) (get_or old 0 0) 0))
 written old message out r s len h i n =
-    entry_written message_of IsFirst 3 7 old message out _ (omega arith) (omega arith) r.count s.count len (entry_at (get_or old 0 0) (get_or message 0 0) h i n)
+    entry_written message_of is_first 3 7 old message out _ (omega arith) (omega arith) r.count s.count len (entry_at (get_or old 0 0) (get_or message 0 0) h i n)
 
 pub bounds-msg : goal.bounds-msg
 bounds-msg c = one_word 3 c.args.msg.now c.requires.message (omega arith) (c.type_inv.msg 0).fits

@@ -3,16 +3,16 @@ use Rattle.std.proofs.Common.{rules, ◌≡◌, ℕ, ◌<◌, List, [], length, 
 use Rattle.wom_code.specs.Packed.{IsRow}
 use Rattle.wom_code.proofs.OneWord.{one_word}
 use Rattle.wom_code.proofs.TableCodes.{IsWritten, entry_written, none_written}
-use Rattle.rivest_shamir.specs.Words.{message_of, IsLeast}
+use Rattle.rivest_shamir.specs.Words.{message_of, is_least}
 use Rattle.rivest_shamir.specs.declared.TheConstants.{NEXT}
 use Rattle.rivest_shamir.proofs.TableLemmas.{none_at, entry_at}
 use Rattle.rivest_shamir.proofs.RivestShamirPackedCode23.over_words.Goals as goal
 
 written : (old message out : List ℕ) → IsRow 3 old → IsRow 2 message → length out ≡ 1 → get_or old 0 0 < 8 → get_or message 0 0 < 4 →
     (get_or (get_or NEXT (get_or message 0 0) []) (get_or old 0 0) 0 ≡ 8 → ⊥) →
-    IsWritten message_of IsLeast 2 3 old message (set out 0 (get_or (get_or NEXT (get_or message 0 0) []) (get_or old 0 0) 0))
+    IsWritten message_of is_least 2 3 old message (set out 0 (get_or (get_or NEXT (get_or message 0 0) []) (get_or old 0 0) 0))
 written old message out r s len h i n =
-    entry_written message_of IsLeast 2 3 old message out _ (omega arith) (omega arith) r.count s.count len (entry_at (get_or old 0 0) (get_or message 0 0) h i n)
+    entry_written message_of is_least 2 3 old message out _ (omega arith) (omega arith) r.count s.count len (entry_at (get_or old 0 0) (get_or message 0 0) h i n)
 
 pub bounds-msg : goal.bounds-msg
 bounds-msg c = one_word 2 c.args.msg.now c.requires.message (omega arith) (c.type_inv.msg 0).fits
