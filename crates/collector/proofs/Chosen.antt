@@ -24,7 +24,7 @@ use Rattle.page_codec.specs.declared.place.Place.{Place}
 use Rattle.page_codec.specs.declared.fault.PutFault.TheVariants.{Read, Change}
 use Rattle.page_codec.specs.Geometry.{Geometry, page_count, block_of}
 use Rattle.page_codec.specs.Records.{Placed, header_in, committed_in, live_record}
-use Rattle.page_codec.specs.Sectors.{says_zeros, stored}
+use Rattle.page_codec.specs.Sectors.{says_zeros, said_by, stored, InCells}
 use Rattle.page_codec.specs.Sizes.{Sizes}
 use Rattle.page_codec.specs.Sound.{live_count, stands_in}
 use Rattle.page_codec.specs.TrueBook.{IsTrue, entry_of}
@@ -236,6 +236,7 @@ pub moved_from : (g : Geometry) (d : Decoding) (live : LiveRecord) (page : ℕ) 
 moved_from g d live page old new mid same m = record {
   there = m.there;
   others = λ sector other. m.others sector other ∙ ap (λ (cells : List (List ℕ)). live_record g cells sector) same.cells;
+  cells = subst (λ (cells : List (List ℕ)). InCells g d new.die.cells page live.header (said_by g d cells (Some (record { place = live.place; header = live.header })))) same.cells m.cells;
   rows = m.rows ∙ ap (stored g d) same.cells;
   book = m.book;
   seq = m.seq;
@@ -259,6 +260,8 @@ moved_one g meaning old new mid page room victim live pages spans next is same p
       is_first = first;
       live = m.there ∙ ap (λ (q : ℕ). Some (record { place = record { page = q; slot = 0 }; header = again live.header old.seq })) (next.page_is ∙ ap (λ (n : ℕ). next.block * n + next.fill) pages);
       others = m.others;
+      cells = subst (λ (q : ℕ). InCells g meaning.decoding new.die.cells q live.header (said_by g meaning.decoding old.die.cells (Some (record { place = live.place; header = live.header }))))
+          (next.page_is ∙ ap (λ (n : ℕ). next.block * n + next.fill) pages) m.cells;
       rows = m.rows;
       book = m.book next.block next.fill next.active ∙ ap (λ (b : ℕ). filled (recorded old.book next.block (Some b)) next.block) first.inside;
       seq = m.seq;

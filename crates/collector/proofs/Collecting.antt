@@ -22,12 +22,15 @@ use Rattle.page_codec.specs.declared.fault.PutFault.TheVariants.{Read, Change}
 use Rattle.page_codec.specs.Geometry.{Geometry, shape_of}
 use Rattle.page_codec.specs.Records.{live_record}
 use Rattle.page_codec.specs.Sizes.{Sizes, Serves, ServesScheme}
+use Rattle.page_codec.specs.Sectors.{InCells}
 use Rattle.page_codec.specs.Sound.{IsSound, stands_in}
-use Rattle.collector.specs.Collections.{Collected, CollectReadFailed, CollectChangeFailed, Marks, as_it_was, erased, copied_to, erased_and_copied_to, collection_calls, collection_reads, erase_calls, get_reads}
+use Rattle.collector.specs.Collections.{Collected, CollectReadFailed, CollectChangeFailed, Marks, as_it_was, erased, copied_to, erased_and_copied_to, collection_calls, collection_reads, erase_calls, get_reads, nth}
 use Rattle.collector.specs.Inside.{Begun, CollectEnds}
 use Rattle.collector.specs.Steps.{MadeBlank, was_blank, was_erased}
 use Rattle.collector.specs.Store.{Store, store, geometry_of, Holds}
 use Rattle.collector.proofs.Books.{state_here, state_there, spare_within}
+use Rattle.collector.proofs.Committed.{live_so}
+use Rattle.collector.proofs.Rows.{said_still}
 use Rattle.collector.proofs.Clearing.{SparesIn, BlankedSo, TornSo, spare_there, page_there_is}
 use Rattle.collector.proofs.Settled.{settled_again}
 
@@ -177,6 +180,10 @@ ends_after g d victim spare old _ book _ table seq new (Ok moved) (was_erased mi
         };
         count = c.count;
         copied = c.copied;
+        cells = λ i h. subst (InCells g d new.die.cells (spare * g.pages + i) (nth c.records i).header)
+            (said_still g d old.cells mid.cells (nth c.records i) so.rows (live_so g mid.cells (nth c.records i).header.sector (nth c.records i) (c.are_live.live i h)).within
+            (c.are_live.live i h) (sym (so.live (nth c.records i).header.sector) ∙ c.are_live.live i h))
+            (c.cells i h);
         others = λ sector not. c.others sector (ap (stands_in g victim) (so.live sector) ∙ not) ∙ so.live sector;
         rows = c.rows ∙ so.rows;
         book = c.book ∙ settled_again book victim spare (live_at book victim) true (spare_within book spare spare_is) (ap is_closed is);

@@ -1,8 +1,7 @@
 -- A copy of the live record at the cursor: where it ends well the collection has come one slot further with one copy more, and
 -- where a change call of it fails all sectors stay.
-use Rattle.std.proofs.Common.{◌≡◌, ◌≢◌, ◌⊎◌, inl, inr, ℕ, ◌+◌, ◌*◌, ◌^◌, ◌<◌, ◌≤◌, Bool, true, false, List, [], ◌∷◌, ◌++◌, length, take, drop, ◌==◌, if◌then◌else◌, Some, refl, sym, ap, ap₂, ◌∙◌, subst, arith}
-use Rattle.std.specs.List.{flat_map, range_with_len}
-use Rattle.std.proofs.lemmas.Bool.{cases_lt, cases_Bool, cond-true, cond-false}
+use Rattle.std.proofs.Common.{◌≡◌, ◌≢◌, ◌⊎◌, inl, inr, ℕ, ◌+◌, ◌*◌, ◌^◌, ◌<◌, ◌≤◌, Bool, true, false, List, [], ◌∷◌, ◌++◌, length, drop, if◌then◌else◌, Some, refl, sym, ap, ◌∙◌, subst, arith}
+use Rattle.std.proofs.lemmas.Bool.{cases_lt}
 use native.Mathlib.Nat.{mul-le-mul_right, suc-mul}
 use Rattle.zero_count.specs.declared.Header.{Header}
 use Rattle.zero_count.specs.HeaderWord.{IsHeader}
@@ -12,27 +11,28 @@ use Rattle.cell_die.specs.Counts.{Stayed}
 use Rattle.cell_die.specs.DieState.{DieState, IsShaped, page_of}
 use Rattle.cell_die.specs.Calls.{Kept}
 use Rattle.cell_die.proofs.Sequences.{kept_trans}
-use Rattle.striped.specs.Meaning.{Meaning}
+use Rattle.striped.specs.Meaning.{Meaning, Decodes}
 use Rattle.spare_gate.specs.Slots.{is_gate_charged}
 use Rattle.block_state.specs.Book.{BookValue, live_at}
 use Rattle.page_codec.specs.Geometry.{Geometry, block_of, page_count, shape_of, spare_at}
 use Rattle.page_codec.specs.Promises.{IsFresh, Keeps, KeepsRecords}
 use Rattle.page_codec.specs.Puts.{first_slot, is_gated}
 use Rattle.page_codec.specs.Records.{Placed, live_record}
-use Rattle.page_codec.specs.Sectors.{says_zeros, zero_sector, said_by, stored}
+use Rattle.page_codec.specs.Sectors.{says_zeros, said_by, stored, InCells}
 use Rattle.page_codec.specs.Sound.{IsSound}
-use Rattle.page_codec.specs.Units.{decoded_at}
 use Rattle.page_codec.proofs.PutLaws.{PutsCells, header_after}
 use Rattle.page_codec.proofs.PutCells.{put_cells}
 use Rattle.page_codec.proofs.SoundErase.{live_count_same}
 use Rattle.collector.specs.Collections.{copy_of}
 use Rattle.collector.specs.Inside.{Scanned, Inside, Begun, number_of}
-use Rattle.collector.specs.Steps.{PutsDrawn, DecodesTo, copied_header}
+use Rattle.collector.specs.Says.{SaysSame}
+use Rattle.collector.specs.Steps.{PutsDrawn, copied_header}
 use Rattle.collector.specs.Store.{Store, store, Holds}
 use Rattle.collector.proofs.Committed.{live_so}
 use Rattle.collector.proofs.Copying.{PutsCopy, copy_leaves_live, copy_leaves_others, one_copy_more}
 use Rattle.collector.proofs.Elsewhere.{said_stays, rows_stay}
 use Rattle.collector.proofs.Passing.{count_take, count_few, length_push}
+use Rattle.collector.proofs.Says.{cells_there, put_says}
 use Rattle.collector.proofs.Reaching.{two_slots, free_spare, live_is, fresh_now, marked_next}
 
 -- The put of the copy of the live record at the cursor.
@@ -43,13 +43,14 @@ pub record Copies (g : Geometry) (meaning : Meaning) (victim spare : ℕ) (start
   pub live : live_record g start.die.cells x.header.sector ≡ Some x
   pub here : block_of g x.place.page ≡ victim
   pub at : number_of g x.place ≡ cursor
-  pub put : PutsDrawn (DecodesTo meaning now.die x.place x.header (spare * g.pages + length records)) spare (spare * g.pages + length records) (copied_header x.header now.seq)
+  pub put : PutsDrawn (SaysSame meaning now.die x.place x.header (spare * g.pages + length records)) spare (spare * g.pages + length records) (copied_header x.header now.seq)
       now.die now.book now.seq new after next
   pub kept : Kept now.die new
   pub shaped : IsShaped now.die
   pub shaped_new : IsShaped new
   pub bytes : meaning.page_bytes ≡ g.main_bytes
   pub span : meaning.span ≡ g.span
+  pub decodes : Decodes meaning
   pub small : x.header.sector < 2 ^ 32
 
 module _ (g : Geometry) (meaning : Meaning) (victim spare : ℕ) (start now : Store) (cursor : ℕ) (records : List Placed) (x : Placed) (new : DieState) (after : BookValue) (next : ℕ)
@@ -162,34 +163,33 @@ module _ (g : Geometry) (meaning : Meaning) (victim spare : ℕ) (start now : St
       back (inl sound) = inl sound
       back (inr stayed) = inr (omega (arith, stayed, c.kept.change_faults))
 
-  -- what the record decodes to, by the die and by the geometry
-  decoded_is : says_zeros x.header ≡ false → decoded_at meaning now.die x.place ≡ said_by g meaning.decoding now.die.cells (Some x)
-  decoded_is bytes =
-      ap₂ (λ (m n : ℕ). if x.place.slot == 0 then meaning.decoding.first (take m (page_of now.die x.place.page)) else meaning.decoding.second (flat_map (λ p. take m (page_of now.die p)) (range_with_len x.place.page n)))
-      (ap (λ (s : Shape). s.main_bytes) shape_now) c.span
-      ∙ sym (cond-false (says_zeros x.header) (zero_sector g) _ bytes)
+  -- the copies before changed nothing of what the record says
+  said_before : said_by g meaning.decoding now.die.cells (Some x) ≡ said_by g meaning.decoding start.die.cells (Some x)
+  said_before = said_stays g meaning.decoding start.die.cells now.die.cells spare c.inside.taking.others x
+      (live_so g start.die.cells x.header.sector x c.live).so.holds (λ here. c.begun.apart (sym c.here ∙ here))
 
-  -- the page of the copy decodes to what the record says
-  copy_says : is_gated new (first_slot (spare * g.pages + length records)) ≡ true
-      → said_by g meaning.decoding new.cells (Some (copy_of g spare start.seq x (length records))) ≡ said_by g meaning.decoding start.die.cells (Some x)
-  copy_says gated = elim (cases_Bool (says_zeros x.header)) [
-    | inl zeros ↦ cond-true (says_zeros (copy_of g spare start.seq x (length records)).header) _ _ (still (says_zeros x.header) ∙ zeros) ∙ sym (cond-true (says_zeros x.header) _ _ zeros)
-    | inr bytes ↦ cond-false (says_zeros (copy_of g spare start.seq x (length records)).header) _ _ (still (says_zeros x.header) ∙ bytes)
-        ∙ (ap₂ (λ (m : ℕ) (row : List ℕ). meaning.decoding.first (take m row)) (sym c.bytes) (c.put.put.whole gated (spare * g.pages + length records))
-        ∙ (c.put.put.content bytes
-        ∙ (decoded_is bytes
-        ∙ said_stays g meaning.decoding start.die.cells now.die.cells spare c.inside.taking.others x
-        (live_so g start.die.cells x.header.sector x c.live).so.holds (λ here. c.begun.apart (sym c.here ∙ here)))))
-  ]
-    where
-      still : (t : Bool) → says_zeros (record { sector = x.header.sector; seq = start.seq + length records; kind = if t then 4 else 2 }) ≡ t
-      still true = refl
-      still false = refl
+  module _ (gated : is_gated new (first_slot (spare * g.pages + length records)) ≡ true) where
+    -- the copy says what the record says
+    copy_says : said_by g meaning.decoding new.cells (Some (copy_of g spare start.seq x (length records))) ≡ said_by g meaning.decoding start.die.cells (Some x)
+    copy_says =
+        ap (λ (h : Header). said_by g meaning.decoding new.cells (Some (record { place = first_slot (spare * g.pages + length records); header = h }))) (sym header_is)
+        ∙ (put_says g meaning x.place x.header (copied_header x.header now.seq) (spare * g.pages + length records) now.die new c.put.put shape_now c.bytes c.span gated
+        c.decodes (still (says_zeros x.header))
+        ∙ said_before)
+      where
+        still : (t : Bool) → says_zeros (record { sector = x.header.sector; seq = now.seq; kind = if t then 4 else 2 }) ≡ t
+        still true = refl
+        still false = refl
+
+    -- in the cells of a first write
+    copy_cells : InCells g meaning.decoding new.cells (spare * g.pages + length records) x.header (said_by g meaning.decoding start.die.cells (Some x))
+    copy_cells = subst (InCells g meaning.decoding new.cells (spare * g.pages + length records) x.header) said_before
+        (cells_there g meaning x.place x.header (copied_header x.header now.seq) (spare * g.pages + length records) now.die new c.put.put shape_now c.bytes c.span gated)
 
   -- Behind its gate.
   pub inside_after : is_gated new (first_slot (spare * g.pages + length records)) ≡ true → Inside g meaning.decoding spare start (store new now.table after next) (records ++ x ∷ [])
   inside_after gated = record {
-    taking = one_copy_more g meaning.decoding spare start.seq start.die.cells now.die.cells new.cells records x puts_copy charged (copy_says gated);
+    taking = one_copy_more g meaning.decoding spare start.seq start.die.cells now.die.cells new.cells records x puts_copy charged (copy_says gated) (copy_cells gated);
     table = c.inside.table;
     book = inr (c.put.marked ∙ marked_next g meaning.decoding victim spare start c.begun now records c.inside);
     seq = omega (arith, c.put.drawn, c.inside.seq, length_push records x);

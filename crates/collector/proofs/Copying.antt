@@ -12,12 +12,13 @@ use Rattle.page_codec.specs.declared.place.Place.{Place}
 use Rattle.page_codec.specs.Geometry.{Geometry, block_of, page_count, spare_at}
 use Rattle.page_codec.specs.Promises.{HoldsRecord}
 use Rattle.page_codec.specs.Records.{Placed, may_hold, below_sectors, record_in, is_copy, is_sealed, live_record}
-use Rattle.page_codec.specs.Sectors.{said_by, says_zeros, zero_sector}
+use Rattle.page_codec.specs.Sectors.{said_by, says_zeros, zero_sector, InCells}
 use Rattle.page_codec.proofs.PutLaws.{PutsCells, header_after, seal_stays}
 use Rattle.collector.specs.Collections.{copied_kind, copy_of, nth}
 use Rattle.collector.specs.Inside.{IsCopied, Taking}
 use Rattle.collector.proofs.BlankPages.{blank_gate, blank_slot}
 use Rattle.collector.proofs.Passing.{length_push, nth_front, nth_last}
+use Rattle.collector.proofs.Says.{cells_stay}
 use Rattle.collector.proofs.PutCopies.{placed_there, copy_keeps_live}
 use Rattle.collector.proofs.States.{page_in_block}
 
@@ -29,6 +30,7 @@ copied_stays g d start old new spare seq x i same c = record {
   there = ap (λ (bytes : List ℕ). if may_hold g place then below_sectors g (header_at (drop g.main_bytes bytes) 0) else None) same ∙ c.there;
   gated = ap (λ (bytes : List ℕ). is_gate_charged (drop g.main_bytes bytes) 0) same ∙ c.gated;
   says = ap (λ (bytes : List ℕ). if says_zeros (copy_of g spare seq x i).header then zero_sector g else d.first (take g.main_bytes bytes)) same ∙ c.says;
+  cells = cells_stay g d old new (spare * g.pages + i) x.header (said_by g d start (Some x)) (ap (take g.main_bytes) same) c.cells;
   further = λ slot one within. ap (λ (bytes : List ℕ). is_slot_blank (drop g.main_bytes bytes) slot) same ∙ c.further slot one within;
 }
   where
@@ -86,8 +88,8 @@ module _ (g : Geometry) (d : Decoding) (spare seq : ℕ) (start old new : List (
 
   -- Behind its gate the copy is one more.
   pub one_copy_more : is_gate_charged (spare_at g new (spare * g.pages + length records)) 0 ≡ true → said_by g d new (Some (copy_of g spare seq x (length records))) ≡ said_by g d start (Some x)
-      → Taking g d spare seq start new (records ++ x ∷ [])
-  one_copy_more charged says = record {
+      → InCells g d new (spare * g.pages + length records) x.header (said_by g d start (Some x)) → Taking g d spare seq start new (records ++ x ∷ [])
+  one_copy_more charged says cells = record {
     others = copy_leaves_others;
     unsealed = seal_stays g (copy_of g spare seq x (length records)).place (copy_of g spare seq x (length records)).header old new p.put (spare * g.pages) ∙ p.taking.unsealed;
     headers = λ place h here e. elim (header_after g (copy_of g spare seq x (length records)).place (copy_of g spare seq x (length records)).header old new p.put p.header place h e) [
@@ -120,6 +122,7 @@ module _ (g : Geometry) (d : Decoding) (spare seq : ℕ) (start old new : List (
         there = placed_there g (copy_of g spare seq x (length records)).place (copy_of g spare seq x (length records)).header old new p.put holds_copy charged;
         gated = charged;
         says = says;
+        cells = cells;
         further = λ slot one within.
             ap (λ (bytes : List ℕ). is_slot_blank (drop g.main_bytes bytes) slot) (p.put.whole charged (spare * g.pages + length records))
             ∙ (ap (λ (spare_bytes : List ℕ). is_slot_blank spare_bytes slot) p.put.record_there

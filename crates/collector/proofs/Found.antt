@@ -8,7 +8,7 @@ use Rattle.cell_die.specs.Cells.{page_at, is_blank}
 use Rattle.cell_die.specs.DieState.{DieState, IsShaped}
 use Rattle.cell_die.specs.Calls.{Kept}
 use Rattle.spare_gate.specs.Slots.{word_at}
-use Rattle.striped.specs.Meaning.{Meaning}
+use Rattle.striped.specs.Meaning.{Meaning, Decodes}
 use Rattle.sector_map.specs.Entry.{entry_at}
 use Rattle.block_state.specs.Book.{BookValue, IsSpare, live_at}
 use Rattle.page_codec.specs.declared.place.Place.{Place}
@@ -26,7 +26,8 @@ use Rattle.page_codec.specs.Sectors.{says_zeros}
 use Rattle.collector.specs.Inside.{Stands, TurnEnds, Reached, ReadStopped, number_of, passed_gets}
 use Rattle.collector.specs.Named.{names_slot}
 use Rattle.collector.specs.Settles.{move_of}
-use Rattle.collector.specs.Steps.{PutsDrawn, DecodesTo, copied_header, copy_reads, CopyEnds}
+use Rattle.collector.specs.Says.{SaysSame}
+use Rattle.collector.specs.Steps.{PutsDrawn, copied_header, copy_reads, CopyEnds}
 use Rattle.collector.specs.Store.{Store, store}
 use Rattle.collector.proofs.Committed.{live_so}
 use Rattle.collector.proofs.CopySteps.{Copies}
@@ -124,8 +125,9 @@ module _ (g : Geometry) (meaning : Meaning) (spare : ℕ) (start now : Store) (p
         in_die = (holds_within g place one_slot (live_so g start.die.cells h.sector (placed_at place h) live).so.holds).0
 
     -- how the copy ends
-    module _ (small : h.sector < 2 ^ 32) (page : ℕ) (is_page : page ≡ spare * g.pages + copies) (new : DieState) (after : BookValue) (next : ℕ) (kept : Kept now.die new) (shaped : IsShaped now.die) (shaped_new : IsShaped new) where
-      copies_of : PutsDrawn (DecodesTo meaning now.die place h page) spare page (copied_header h now.seq) now.die now.book now.seq new after next
+    module _ (small : h.sector < 2 ^ 32) (page : ℕ) (is_page : page ≡ spare * g.pages + copies) (new : DieState) (after : BookValue) (next : ℕ) (kept : Kept now.die new)
+        (shaped : IsShaped now.die) (shaped_new : IsShaped new) (decodes : Decodes meaning) where
+      copies_of : PutsDrawn (SaysSame meaning now.die place h page) spare page (copied_header h now.seq) now.die now.book now.seq new after next
           → Copies g meaning (block_of g place.page) spare start now (number_of g place) s.reached.records (placed_at place h) new after next
       copies_of put = record {
         begun = s.begun;
@@ -134,13 +136,14 @@ module _ (g : Geometry) (meaning : Meaning) (spare : ℕ) (start now : Store) (p
         live = live;
         here = refl;
         at = refl;
-        put = subst (λ (q : ℕ). PutsDrawn (DecodesTo meaning now.die place h q) spare q (copied_header h now.seq) now.die now.book now.seq new after next)
+        put = subst (λ (q : ℕ). PutsDrawn (SaysSame meaning now.die place h q) spare q (copied_header h now.seq) now.die now.book now.seq new after next)
             (is_page ∙ ap (λ (n : ℕ). spare * g.pages + n) s.reached.copied) put;
         kept = kept;
         shaped = shaped;
         shaped_new = shaped_new;
         bytes = s.bytes;
         span = s.span;
+        decodes = decodes;
         small = small;
       }
 

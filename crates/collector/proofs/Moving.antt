@@ -1,7 +1,6 @@
 -- A live record that is put again on the next page of the Active block says the same, so all sectors stay; from its gate on it is
 -- the live one of its sector.
-use Rattle.std.proofs.Common.{◌≡◌, ◌⊎◌, inl, inr, ℕ, ◌+◌, ◌*◌, ◌/◌, ◌^◌, ◌<◌, ◌≤◌, Bool, true, false, List, length, take, drop, slice_set, ◌||◌, ◌==◌, if◌then◌else◌, Option, Some, refl, sym, ap, ◌∙◌, arith, subst}
-use Rattle.std.specs.List.{flat_map, range_with_len}
+use Rattle.std.proofs.Common.{◌≡◌, ◌⊎◌, inl, inr, ℕ, ◌+◌, ◌*◌, ◌/◌, ◌^◌, ◌<◌, ◌≤◌, Bool, true, false, List, length, drop, slice_set, ◌||◌, ◌==◌, if◌then◌else◌, Option, Some, refl, sym, ap, ◌∙◌, arith, subst}
 use Rattle.std.proofs.lemmas.Bool.{cases_Bool}
 use Rattle.std.proofs.lemmas.Nat.{div-add-mod', div_below}
 use native.Mathlib.Nat.{mul-le-mul_right, suc-mul}
@@ -10,7 +9,7 @@ use Rattle.zero_count.specs.HeaderWord.{IsHeader}
 use Rattle.zero_count.proofs.Spelled.{spelled_from_read}
 use Rattle.cell_die.specs.declared.shape.Shape.{Shape}
 use Rattle.cell_die.specs.Cells.{page_at, is_blank}
-use Rattle.cell_die.specs.DieState.{DieState, IsShaped, page_of}
+use Rattle.cell_die.specs.DieState.{DieState, IsShaped}
 use Rattle.cell_die.specs.Calls.{Kept}
 use Rattle.striped.specs.Meaning.{Meaning, Decodes}
 use Rattle.spare_gate.specs.Slots.{is_gate_charged}
@@ -22,21 +21,23 @@ use Rattle.block_state.specs.Book.{BookValue}
 use Rattle.page_codec.specs.declared.place.Place.{Place}
 use Rattle.page_codec.specs.declared.fault.PutFault.{PutFault}
 use Rattle.page_codec.specs.declared.fault.PutFault.TheVariants.{Read, Change}
-use Rattle.page_codec.specs.Geometry.{Geometry, page_count, block_of, units, shape_of, main_at, unit_at}
+use Rattle.page_codec.specs.Geometry.{Geometry, page_count, block_of, units, shape_of}
 use Rattle.page_codec.specs.Records.{may_hold, is_copy, committed_in, live_record}
-use Rattle.page_codec.specs.Sectors.{said_by, says_zeros, zero_sector, stored}
+use Rattle.page_codec.specs.Sectors.{said_by, says_zeros, stored}
 use Rattle.page_codec.specs.Sizes.{Sizes, Serves, ServesScheme}
 use Rattle.page_codec.specs.Puts.{Puts, first_slot, is_gated}
 use Rattle.page_codec.specs.TrueBook.{IsTrue, IsTrueState, IsTrueActive, entry_of}
-use Rattle.page_codec.specs.Units.{reads_of, decoded_at}
+use Rattle.page_codec.specs.Units.{reads_of}
 use Rattle.page_codec.proofs.Live.{committed_holds, live_counts, holds_within}
 use Rattle.collector.specs.declared.live.LiveRecord.{LiveRecord}
 use Rattle.collector.specs.Store.{store, geometry_of, Holds}
 use Rattle.collector.specs.Effects.{recorded, filled, after_record, block_in, former_in}
-use Rattle.collector.specs.Again.{IsNextPage, IsLive, again, SaysAgain, PutsAgain, AgainFails, MovedRecord, MoveFails}
+use Rattle.collector.specs.Says.{SaysSame}
+use Rattle.collector.specs.Again.{IsNextPage, IsLive, again, PutsAgain, AgainFails, MovedRecord, MoveFails}
 use Rattle.collector.proofs.Blanks.{committed_header}
 use Rattle.collector.proofs.Books.{active_within}
-use Rattle.collector.proofs.Rows.{rows_same, zeros_say}
+use Rattle.collector.proofs.Rows.{rows_same}
+use Rattle.collector.proofs.Says.{cells_there, put_says}
 use Rattle.collector.proofs.NextPage.{PutsNext, next_page, next_gate, next_page_within, later_unit, unit_of_page, unit_at_page, stores_from_gate, stored_before_gate}
 use Rattle.collector.proofs.Tables.{former_some, entry_true}
 use Rattle.collector.proofs.Recorded.{MayRecord, Recorded, after_active, in_block, next_may_record, next_recorded}
@@ -165,7 +166,8 @@ module _ (g : Geometry) (meaning : Meaning) (live : LiveRecord) (page : ℕ) (di
 
   module _ (new : DieState) (p : PutsAgain meaning live page die seq new) (kept : Kept die new) (shaped_new : IsShaped new) where
     pub puts_next : PutsNext g m.next.1.block m.next.1.fill (again live.header seq) die.cells new.cells
-    puts_next = next_put g block fill moved die new book table seq (subst (λ (q : ℕ). Puts (SaysAgain meaning die live page) 1 (first_slot q) moved die new) at_page p) m.shape kept.shape m.shaped shaped_new
+    puts_next = next_put g block fill moved die new book table seq (subst (λ (q : ℕ). Puts (SaysSame meaning die live.place live.header page) 1 (first_slot q) moved die new) at_page p)
+        m.shape kept.shape m.shaped shaped_new
         m.tables m.next.1.active m.fresh refl (again_header live.header seq (spelled_from_read _ live.header (committed_header g die.cells live.place live.header committed)).0 m.fresh) m.is_live.sector (again_single live.header seq)
 
     -- what it keeps, in either outcome
@@ -181,29 +183,10 @@ module _ (g : Geometry) (meaning : Meaning) (live : LiveRecord) (page : ℕ) (di
     -- the record says the same
     says_same : next_gate g m.next.1.block m.next.1.fill new.cells ≡ true
         → said_by g meaning.decoding new.cells (Some (record { place = first_slot (next_page g m.next.1.block m.next.1.fill); header = again live.header seq })) ≡ said_by g meaning.decoding die.cells (live_record g die.cells live.header.sector)
-    says_same charged = at (cases_Bool (says_zeros live.header)) ∙ sym (ap (said_by g meaning.decoding die.cells) m.is_live.is)
-      where
-        main : die.shape.main_bytes ≡ g.main_bytes
-        main = ap (λ (s : Shape). s.main_bytes) m.shape
-
-        decoded : decoded_at meaning die live.place ≡ (if live.place.slot == 0 then meaning.decoding.first (main_at g die.cells live.place.page) else meaning.decoding.second (unit_at g die.cells live.place.page))
-        decoded = λ i. if live.place.slot == 0 then meaning.decoding.first (take (main i) (page_of die live.place.page)) else meaning.decoding.second (flat_map (λ q. take (main i) (page_of die q)) (range_with_len live.place.page (m.span i)))
-
-        at : (says_zeros live.header ≡ true) ⊎ (says_zeros live.header ≡ false)
-            → said_by g meaning.decoding new.cells (Some (record { place = first_slot (next_page g m.next.1.block m.next.1.fill); header = again live.header seq }))
-            ≡ said_by g meaning.decoding die.cells (Some (record { place = live.place; header = live.header }))
-        at (inl zeros) =
-            zeros_say g meaning.decoding new.cells (first_slot (next_page g block fill)) moved (again_says live.header seq ∙ zeros)
-            ∙ sym (zeros_say g meaning.decoding die.cells live.place live.header zeros)
-        at (inr bytes) =
-            let content = p.content bytes in
-            let whole : page_of new page ≡ p.done page = p.whole (sym gate_is ∙ charged) page in
-            let first : meaning.decoding.first (main_at g new.cells page) ≡ decoded_at meaning die live.place
-            = m.decodes.first (main_at g new.cells page) (decoded_at meaning die live.place) content.1
-            ((λ i. meaning.decoding.first_gives (take (sym m.main_bytes i) (whole i)) (decoded_at meaning die live.place)) ∙ content.0) in
-            ap (λ (t : Bool). if t then zero_sector g else meaning.decoding.first (main_at g new.cells (next_page g block fill))) (again_says live.header seq ∙ bytes)
-            ∙ (ap (λ (q : ℕ). meaning.decoding.first (main_at g new.cells q)) (sym at_page) ∙ (first ∙ (decoded
-            ∙ sym (ap (λ (t : Bool). if t then zero_sector g else (if live.place.slot == 0 then meaning.decoding.first (main_at g die.cells live.place.page) else meaning.decoding.second (unit_at g die.cells live.place.page))) bytes))))
+    says_same charged =
+        ap (λ (q : ℕ). said_by g meaning.decoding new.cells (Some (record { place = first_slot q; header = again live.header seq }))) (sym at_page)
+        ∙ (put_says g meaning live.place live.header (again live.header seq) page die new p m.shape m.main_bytes m.span (sym gate_is ∙ charged) m.decodes (again_says live.header seq)
+        ∙ sym (ap (said_by g meaning.decoding die.cells) m.is_live.is))
 
     -- all sectors stay, in either outcome
     pub moving_rows : stored g meaning.decoding new.cells ≡ stored g meaning.decoding die.cells
@@ -240,6 +223,7 @@ module _ (g : Geometry) (meaning : Meaning) (live : LiveRecord) (page : ℕ) (di
         moved_record = record {
           there = left.live ∙ ap (λ (q : ℕ). Some (record { place = first_slot q; header = again live.header seq })) (sym at_page);
           others = left.others;
+          cells = cells_there g meaning live.place live.header (again live.header seq) page die new p m.shape m.main_bytes m.span gated;
           rows = moving_rows;
           book = λ b f active.
               book_is ∙ (ap (λ (c : ℕ). after_record book c (former_in book (entry_at table live.header.sector))) (in_block g block fill book entry m.tables.sizes.pages active_block.room placed_next

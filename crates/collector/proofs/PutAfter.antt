@@ -1,5 +1,5 @@
 -- A put after calls that change no cell is a put from the cells before them.
-use Rattle.std.proofs.Common.{◌≡◌, ℕ, ◌+◌, Bool, false, if◌then◌else◌, List, drop, sym, ap, ◌∙◌, arith, subst}
+use Rattle.std.proofs.Common.{◌≡◌, inl, inr, ℕ, ◌+◌, Bool, false, if◌then◌else◌, List, drop, sym, ap, ◌∙◌, arith, subst}
 use Rattle.zero_count.specs.declared.Header.{Header}
 use Rattle.cell_die.specs.Cells.{IsAbove, page_at}
 use Rattle.cell_die.specs.declared.shape.Shape.{Shape}
@@ -15,6 +15,7 @@ use Rattle.page_codec.specs.Sectors.{says_zeros}
 use Rattle.page_codec.specs.Units.{reads_of, decoded_at}
 use Rattle.collector.specs.declared.live.LiveRecord.{LiveRecord}
 use Rattle.collector.specs.Again.{again, again_reads, PutsAgain}
+use Rattle.collector.proofs.Says.{says_bytes}
 
 pub puts_after : {A B : (ℕ → List ℕ) → Type 0} {span : ℕ} (place : Place) (h : Header) (old mid new : DieState) → SameCells old mid → mid.shape ≡ old.shape
     → (p : Puts A span place h mid new) → B p.done → Puts B span place h old new
@@ -28,6 +29,7 @@ puts_after place h old mid new same shape p content = record {
   above = λ page. subst (IsAbove (page_of new page)) (row page) (p.above page);
   below = p.below;
   whole = p.whole;
+  order = elim p.order [ inl first ↦ inl (first ∙ row place.page) | inr further ↦ inr further ];
 }
   where
     main : mid.shape.main_bytes ≡ old.shape.main_bytes
@@ -44,10 +46,10 @@ puts_after place h old mid new same shape p content = record {
 
 -- the bytes of a record were read and put again
 pub bytes_puts : (meaning : Meaning) (live : LiveRecord) (page : ℕ) (sector : List ℕ) (old mid new : DieState) (seq : ℕ) → SameCells old mid → mid.shape ≡ old.shape
-    → Puts (FirstGives meaning page sector) 1 (first_slot page) (again live.header seq) mid new → sector ≡ decoded_at meaning old live.place → IsSector meaning sector
+    → says_zeros live.header ≡ false → Puts (FirstGives meaning page sector) 1 (first_slot page) (again live.header seq) mid new → sector ≡ decoded_at meaning old live.place → IsSector meaning sector
     → PutsAgain meaning live page old seq new
-bytes_puts meaning live page sector old mid new seq same shape p got is =
-    puts_after (first_slot page) (again live.header seq) old mid new same shape p (λ bytes. (subst (λ (s : List ℕ). FirstGives meaning page s p.done) got p.content, subst (IsSector meaning) got is))
+bytes_puts meaning live page sector old mid new seq same shape bytes p got is =
+    puts_after (first_slot page) (again live.header seq) old mid new same shape p (says_bytes meaning page live.place live.header sector old p.done bytes got is p.content)
 
 reads_for_bytes : (meaning : Meaning) (live : LiveRecord) → says_zeros live.header ≡ false → reads_of meaning live.place ≡ again_reads meaning live
 reads_for_bytes meaning live bytes = sym (ap (λ (t : Bool). if t then 0 else reads_of meaning live.place) bytes)

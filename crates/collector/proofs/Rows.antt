@@ -9,7 +9,7 @@ use Rattle.cell_die.specs.DieState.{DieState}
 use Rattle.striped.specs.Meaning.{Meaning, Decoding, Decodes, IsSector}
 use Rattle.page_codec.specs.declared.place.Place.{Place}
 use Rattle.page_codec.specs.Geometry.{Geometry, main_at, unit_at}
-use Rattle.page_codec.specs.Records.{live_record}
+use Rattle.page_codec.specs.Records.{Placed, live_record}
 use Rattle.page_codec.specs.Sectors.{said_by, says_zeros, zero_sector, stored}
 use Rattle.page_codec.specs.Puts.{Puts, FirstGives, first_slot, is_gated}
 use Rattle.page_codec.proofs.PutStored.{StoresOne}
@@ -44,6 +44,16 @@ rows_after g d place h old new s within = same_lists (stored g d new) (slice_set
         ∙ ap (λ (n : ℕ). slice_index_or (slice_set (stored g d old) h.sector said) n []) (sym same))))
     at k below (inr other) =
         row_of g d new k below ∙ (s.others k other ∙ (sym (row_of g d old k below) ∙ sym (get_or-set_other (stored g d old) h.sector k said [] other)))
+
+-- where its live record and its row stay, the record says what it said
+pub said_still : (g : Geometry) (d : Decoding) (old new : List (List ℕ)) (x : Placed) → stored g d new ≡ stored g d old → x.header.sector < g.sectors
+    → live_record g new x.header.sector ≡ Some x → live_record g old x.header.sector ≡ Some x → said_by g d new (Some x) ≡ said_by g d old (Some x)
+said_still g d old new x rows within now before =
+    ap (said_by g d new) (sym now)
+    ∙ (sym (row_of g d new x.header.sector within)
+    ∙ (ap (λ (all : List (List ℕ)). slice_index_or all x.header.sector []) rows
+    ∙ (row_of g d old x.header.sector within
+    ∙ ap (said_by g d old) before)))
 
 -- where the record says what the sector held, all rows stay
 pub rows_same : (g : Geometry) (d : Decoding) (place : Place) (h : Header) (old new : List (List ℕ)) → StoresOne g d place h old new

@@ -33,7 +33,7 @@ use Rattle.collector.proofs.Committed.{live_so}
 use Rattle.collector.proofs.Named.{live_map_long}
 use Rattle.collector.proofs.Passing.{count_end, gets_end, scanned_end}
 use Rattle.collector.proofs.Reaching.{spare_still, spare_empty, two_slots, free_spare, fresh_start, live_is, marks_now, rows_now}
-use Rattle.collector.proofs.Sealing.{Seals, copy_is_live, others_live, header_stays, sealed_rows, sealed_sound}
+use Rattle.collector.proofs.Sealing.{Seals, copy_cells, copy_is_live, others_live, header_stays, sealed_rows, sealed_sound}
 use Rattle.collector.proofs.Settled.{Settles, book_is, settled_true}
 use Rattle.collector.proofs.Shapes.{has_shape, page_there}
 use Rattle.collector.proofs.States.{page_in_block}
@@ -177,6 +177,7 @@ module _ (g : Geometry) (meaning : Meaning) (victim spare : ℕ) (start now : St
           are_live = seals.are_live;
           count = all_copied;
           copied = copy_is_live g meaning.decoding victim spare start.seq start.die.cells now.die.cells new.cells r.records seals;
+          cells = copy_cells g meaning.decoding victim spare start.seq start.die.cells now.die.cells new.cells r.records seals;
           others = others_live g meaning.decoding victim spare start.seq start.die.cells now.die.cells new.cells r.records seals;
           rows = sealed_rows g meaning.decoding victim spare start.seq start.die.cells now.die.cells new.cells r.records seals;
           book = is ∙ book_is g meaning.decoding victim spare start now new.cells r.records moves table settles;

@@ -16,7 +16,7 @@ use Rattle.spare_gate.proofs.Gates.{seal_charges, seal_keeps_gates, seal_keeps_w
 use Rattle.page_codec.specs.declared.place.Place.{Place}
 use Rattle.page_codec.specs.Geometry.{Geometry, block_of, spare_at, main_at}
 use Rattle.page_codec.specs.Records.{Placed, may_hold, below_sectors, header_in, record_in, is_copy, is_sealed, of_sector, places, records_of, newest, committed_in, live_record}
-use Rattle.page_codec.specs.Sectors.{said_by, says_zeros, zero_sector, stored}
+use Rattle.page_codec.specs.Sectors.{said_by, says_zeros, zero_sector, stored, InCells}
 use Rattle.page_codec.specs.Sound.{IsSound, live_count, stands_in}
 use Rattle.page_codec.proofs.Live.{of_records, in_records}
 use Rattle.page_codec.proofs.Newest.{newest_is}
@@ -27,6 +27,7 @@ use Rattle.collector.proofs.Committed.{committed_so, copy_committed, live_so}
 use Rattle.collector.proofs.Copying.{is_copied_kind}
 use Rattle.collector.proofs.Counting.{same_count, none_pass}
 use Rattle.collector.proofs.Elsewhere.{OnlyIn, said_stays, committed_elsewhere}
+use Rattle.collector.proofs.Says.{cells_stay}
 use Rattle.collector.proofs.States.{BlockStays, page_in_block}
 
 -- The seal of a spare that has taken the copies of the live records of a victim is charged.
@@ -76,6 +77,10 @@ module _ (g : Geometry) (d : Decoding) (victim spare seq : ℕ) (start cells new
     | inr other ↦ ap (take g.main_bytes) (s.only page other)
     | inl same ↦ subst (λ (q : ℕ). main_at g new q ≡ main_at g cells q) (sym same) (ap (take g.main_bytes) s.here ∙ charge_main g.main_bytes (page_at cells (spare * g.pages)) 248)
   ]
+
+  -- the copies keep their main cells
+  pub copy_cells : (i : ℕ) → i < length records → InCells g d new (spare * g.pages + i) (nth records i).header (said_by g d start (Some (nth records i)))
+  copy_cells i h = cells_stay g d cells new (spare * g.pages + i) (nth records i).header (said_by g d start (Some (nth records i))) (main_stays (spare * g.pages + i)) (s.taking.copied i h).cells
 
   pub header_stays : (place : Place) → header_in g new place ≡ header_in g cells place
   header_stays place = ap header_of (word_stays place.page place.slot)

@@ -1,10 +1,10 @@
 -- A live record is put again: on the next page of the Active block, with the next seq, saying the same.
-use Rattle.std.specs.Prelude.{◌≡◌, ◌≢◌, ℕ, ◌+◌, ◌-◌, ◌*◌, ◌<◌, true, false, List, if◌then◌else◌, Result, Ok, Err, Some}
+use Rattle.std.specs.Prelude.{◌≡◌, ◌≢◌, ℕ, ◌+◌, ◌-◌, ◌*◌, ◌<◌, true, List, if◌then◌else◌, Result, Ok, Err, Some}
 use Rattle.zero_count.specs.declared.Header.{Header}
 use Rattle.cell_die.specs.DieState.{DieState}
 use Rattle.cell_die.specs.Changes.{SameCells}
 use Rattle.cell_die.specs.Calls.{Passed, ChangeFailed, ReadFailed}
-use Rattle.striped.specs.Meaning.{Meaning, Decoding, IsSector}
+use Rattle.striped.specs.Meaning.{Meaning, Decoding}
 use Rattle.block_state.specs.declared.state.State.TheVariants.{Active}
 use Rattle.block_state.specs.Book.{BookValue, state_at}
 use Rattle.page_codec.specs.declared.fault.PutFault.{PutFault}
@@ -12,11 +12,12 @@ use Rattle.page_codec.specs.declared.fault.PutFault.TheVariants.{Read, Change}
 use Rattle.page_codec.specs.Geometry.{Geometry, block_of}
 use Rattle.page_codec.specs.Records.{live_record}
 use Rattle.page_codec.specs.Sectors.{says_zeros, said_by, InCells}
-use Rattle.page_codec.specs.Puts.{Puts, FirstGives, first_slot, is_gated}
-use Rattle.page_codec.specs.Units.{reads_of, decoded_at}
+use Rattle.page_codec.specs.Puts.{Puts, first_slot, is_gated}
+use Rattle.page_codec.specs.Units.{reads_of}
 use Rattle.collector.specs.declared.live.LiveRecord.{LiveRecord}
 use Rattle.collector.specs.Effects.{recorded, filled}
 use Rattle.collector.specs.Moves.{plain_kind}
+use Rattle.collector.specs.Says.{SaysSame}
 use Rattle.collector.specs.Store.{Store, IsTrueStore, SameRows}
 
 -- the page that the Active block fills next, and how many it has left
@@ -35,14 +36,9 @@ again header seq = record { sector = header.sector; seq = seq; kind = plain_kind
 abbrev pub again_reads : Meaning → LiveRecord → ℕ
 again_reads meaning live = if says_zeros live.header then 0 else reads_of meaning live.place
 
--- where the record says bytes, the page carries the sector that they decode to
-abbrev pub SaysAgain : Meaning → DieState → LiveRecord → ℕ → (ℕ → List ℕ) → Type 0
-SaysAgain meaning die live page done =
-    says_zeros live.header ≡ false → FirstGives meaning page (decoded_at meaning die live.place) done × IsSector meaning (decoded_at meaning die live.place)
-
--- the put of the record on a page, from the next seq on
+-- the put of the record on a page, which says the same, from the next seq on
 abbrev pub PutsAgain : Meaning → LiveRecord → ℕ → DieState → ℕ → DieState → Type 0
-PutsAgain meaning live page old seq new = Puts (SaysAgain meaning old live page) 1 (first_slot page) (again live.header seq) old new
+PutsAgain meaning live page old seq new = Puts (SaysSame meaning old live.place live.header page) 1 (first_slot page) (again live.header seq) old new
 
 -- how that put fails: with a failed read before a number was drawn, or with a failed change call
 abbrev pub AgainFails : Meaning → LiveRecord → ℕ → PutFault → DieState → ℕ → DieState → ℕ → Type 0

@@ -1,5 +1,5 @@
 -- What a collection leaves.
-use Rattle.std.specs.Prelude.{◌≡◌, ℕ, ◌+◌, ◌*◌, ◌<◌, ◌≤◌, ◌==◌, true, false, List, length, slice_index_or, if◌then◌else◌, sum_by, Option, Some, None}
+use Rattle.std.specs.Prelude.{◌≡◌, ℕ, ◌+◌, ◌*◌, ◌<◌, ◌≤◌, true, false, List, length, slice_index_or, if◌then◌else◌, sum_by, Some}
 use Rattle.std.specs.List.{range_with_len}
 use Rattle.zero_count.specs.declared.Header.{Header}
 use Rattle.cell_die.specs.Calls.{PassedWithin, ChangeFailed, ReadFailed}

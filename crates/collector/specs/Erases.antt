@@ -1,5 +1,5 @@
 -- Which erase counts a step raises: that of one block at most, by one.
-use Rattle.std.specs.Prelude.{◌≡◌, ◌≢◌, ◌⊎◌, ℕ, true, Option, None, Some, Result, Ok, Err}
+use Rattle.std.specs.Prelude.{◌≡◌, ◌≢◌, ◌⊎◌, ℕ, true, Option, None, Some, Result, Err}
 use Rattle.cell_die.specs.Counts.{raised}
 use Rattle.cell_die.specs.DieState.{DieState, erases_of}
 use Rattle.cell_die.specs.Calls.{ChangeFailed}

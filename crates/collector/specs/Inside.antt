@@ -14,7 +14,7 @@ use Rattle.page_codec.specs.declared.fault.PutFault.{PutFault}
 use Rattle.page_codec.specs.declared.fault.PutFault.TheVariants.{Read, Change}
 use Rattle.page_codec.specs.Geometry.{Geometry, block_of, shape_of, spare_at}
 use Rattle.page_codec.specs.Records.{Placed, header_in, record_in, is_sealed, live_record}
-use Rattle.page_codec.specs.Sectors.{said_by}
+use Rattle.page_codec.specs.Sectors.{said_by, InCells}
 use Rattle.collector.specs.Store.{Store, IsTrueStore, Holds, geometry_of}
 use Rattle.collector.specs.Collections.{Collected, CollectReadFailed, CollectChangeFailed, copy_of, get_reads, nth}
 use Rattle.collector.specs.declared.moves.Move.{Move}
@@ -48,12 +48,13 @@ pub record Scanned (g : Geometry) (cells : List (List ℕ)) (block cursor : ℕ)
       → (i : ℕ) × (i < length records) × (nth records i ≡ placed)
   pub count : length records ≡ passed_count g cells block cursor
 
--- A record was copied: the copy stands behind its gate on its page of the spare, says what the record says, and the further
--- slots of that page are blank.
+-- A record was copied: the copy stands behind its gate on its page of the spare and says what the record says, with the main
+-- cells of a first write, and the further slots of that page are blank.
 pub record IsCopied (g : Geometry) (d : Decoding) (old new : List (List ℕ)) (spare seq : ℕ) (placed : Placed) (i : ℕ) : Type 0 where
   pub there : record_in g new (copy_of g spare seq placed i).place ≡ Some (copy_of g spare seq placed i).header
   pub gated : is_gate_charged (spare_at g new (spare * g.pages + i)) 0 ≡ true
   pub says : said_by g d new (Some (copy_of g spare seq placed i)) ≡ said_by g d old (Some placed)
+  pub cells : InCells g d new (spare * g.pages + i) placed.header (said_by g d old (Some placed))
   pub further : (slot : ℕ) → 1 ≤ slot → slot < g.generations → is_slot_blank (spare_at g new (spare * g.pages + i)) slot ≡ true
 
 -- What stands in the cells while a spare takes the copies of these records.

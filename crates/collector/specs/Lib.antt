@@ -3,6 +3,7 @@ pub mod Store
 pub mod Moves
 pub mod Erases
 pub mod Named
+pub mod Says
 pub mod Again
 pub mod Collections
 pub mod Steps

@@ -1,5 +1,5 @@
 -- What the single steps of a collection leave.
-use Rattle.std.specs.Prelude.{◌≡◌, ℕ, ◌+◌, true, false, List, take, if◌then◌else◌, Result, Ok, Err}
+use Rattle.std.specs.Prelude.{◌≡◌, ℕ, ◌+◌, true, false, List, if◌then◌else◌, Result, Ok, Err}
 use Rattle.zero_count.specs.declared.Header.{Header}
 use Rattle.cell_die.specs.DieState.{DieState}
 use Rattle.cell_die.specs.Changes.{SameCells, IsErased, OnlyBlock}
@@ -13,8 +13,9 @@ use Rattle.page_codec.specs.declared.fault.PutFault.TheVariants.{Read, Change}
 use Rattle.page_codec.specs.Promises.{KeepsRecords}
 use Rattle.page_codec.specs.Puts.{Puts, first_slot, is_gated}
 use Rattle.page_codec.specs.Sectors.{says_zeros}
-use Rattle.page_codec.specs.Units.{reads_of, decoded_at}
+use Rattle.page_codec.specs.Units.{reads_of}
 use Rattle.collector.specs.Collections.{copied_kind}
+use Rattle.collector.specs.Says.{SaysSame}
 
 -- the spare was made blank: it was known to be, or it was erased
 pub data MadeBlank (spare : ℕ) (old : DieState) (book : BookValue) : DieState → BookValue → Type 0 where
@@ -30,14 +31,6 @@ copied_header header seq = record { sector = header.sector; seq = seq; kind = co
 abbrev pub copy_reads : Meaning → Place → Header → ℕ
 copy_reads meaning place header = if says_zeros header then 0 else reads_of meaning place
 
--- the page decodes to what the record decodes to, unless it says zeros
-abbrev pub DecodesTo : Meaning → DieState → Place → Header → ℕ → (ℕ → List ℕ) → Type 0
-DecodesTo meaning die place header page done = says_zeros header ≡ false → meaning.decoding.first (take meaning.page_bytes (done page)) ≡ decoded_at meaning die place
-
--- the page decodes to this sector
-abbrev pub DecodesInto : Meaning → ℕ → List ℕ → (ℕ → List ℕ) → Type 0
-DecodesInto meaning page sector done = meaning.decoding.first (take meaning.page_bytes (done page)) ≡ sector
-
 -- A number was drawn for a header, which was put on a page. From then on the spare is not known to be blank.
 pub record PutsDrawn (Content : (ℕ → List ℕ) → Type 0) (spare page : ℕ) (header : Header) (old : DieState) (book : BookValue) (seq : ℕ) (new : DieState) (after : BookValue) (next : ℕ) : Type 0 where
   pub put : Puts Content 1 (first_slot page) header old new
@@ -48,8 +41,9 @@ pub record PutsDrawn (Content : (ℕ → List ℕ) → Type 0) (spare page : ℕ
 -- how a copy ends: it stands behind its gate, or a read failed and nothing was changed, or a change call failed
 abbrev pub CopyEnds : {T : Type 0} → Meaning → ℕ → ℕ → Place → Header → Result T PutFault → DieState → BookValue → ℕ → DieState → BookValue → ℕ → Type 0
 CopyEnds meaning spare page place header (Ok done) old book seq new after next =
-    PutsDrawn (DecodesTo meaning old place header page) spare page (copied_header header seq) old book seq new after next × (is_gated new (first_slot page) ≡ true) × Passed 2 (copy_reads meaning place header) old new
+    PutsDrawn (SaysSame meaning old place header page) spare page (copied_header header seq) old book seq new after next × (is_gated new (first_slot page) ≡ true)
+    × Passed 2 (copy_reads meaning place header) old new
 CopyEnds meaning spare page place header (Err Read) old book seq new after next =
     SameCells old new × (after ≡ book) × (next ≡ seq) × ReadFailed 0 (copy_reads meaning place header) old new
 CopyEnds meaning spare page place header (Err Change) old book seq new after next =
-    PutsDrawn (DecodesTo meaning old place header page) spare page (copied_header header seq) old book seq new after next × ChangeFailed 2 (copy_reads meaning place header) old new
+    PutsDrawn (SaysSame meaning old place header page) spare page (copied_header header seq) old book seq new after next × ChangeFailed 2 (copy_reads meaning place header) old new

@@ -8,9 +8,9 @@ ghost use Rattle.block_state.specs.Book.{IsSpare, with_state};
 ghost use Rattle.page_codec.specs.Sectors.{says_zeros};
 ghost use Rattle.page_codec.specs.Sizes.{Serves, ServesScheme};
 ghost use Rattle.page_codec.specs.Units.{reads_of};
-ghost use Rattle.collector.specs.Steps.{CopyEnds, DecodesInto, PutsDrawn};
-ghost use Rattle.page_codec.specs.Puts.{first_slot, is_gated};
-ghost use Rattle.striped.specs.Meaning.{Meaning};
+ghost use Rattle.collector.specs.Steps.{CopyEnds, PutsDrawn};
+ghost use Rattle.page_codec.specs.Puts.{FirstGives, first_slot, is_gated};
+ghost use Rattle.striped.specs.Meaning.{Meaning, IsSector};
 ghost use Rattle.page_codec.specs.declared.place.Place.{Place};
 
 use crate::again::says_zeros as zeros_said;
@@ -88,8 +88,9 @@ fn put_bytes<D: Die, C: Scheme>(
     requires is_spare { IsSpare book.old spare }
     requires fresh { seq.old + 1 < 2 ^ 64 }
     requires sector { length sector.now ≡ (C.meaning scheme.old).sector_bytes }
-    ensures puts { PutsDrawn (DecodesInto (C.meaning scheme.old) page sector.now) spare page (record { sector = number; seq = seq.old; kind = 2 })
+    ensures puts { PutsDrawn (FirstGives (C.meaning scheme.old) page sector.now) spare page (record { sector = number; seq = seq.old; kind = 2 })
         (D.state die.old) book.old seq.old (D.state die.new) book.new seq.new }
+    ensures sector { IsSector (C.meaning scheme.old) sector.now }
     ensures gated { OnOk result (is_gated (D.state die.new) (first_slot page) ≡ true) }
     ensures kept { Kept (D.state die.old) (D.state die.new) }
     ensures passed { OnOk result (Passed 2 0 (D.state die.old) (D.state die.new)) }

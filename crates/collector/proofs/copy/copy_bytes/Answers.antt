@@ -19,7 +19,8 @@ returns-in-Ok-clause-ends g c =
     let mid = g.D.Die.state c.get.new.die in
     let fine : is_err c.get.result ≡ false = sym c.is_err.ensures.value ∙ c.if-is_err.false in (
       bytes_put meaning c.args.spare c.args.page c.args.place c.args.header.now c.get.new.into old mid (g.D.Die.state c.put_bytes.new.die) c.args.book.now c.put_bytes.new.book c.args.seq.now c.put_bytes.new.seq
-          c.get.ensures.same_cells c.get.ensures.kept.shape c.requires.bytes (when_ok (c.get.new.into ≡ decoded_at meaning old c.args.place) c.get.result fine c.get.ensures.got) c.put_bytes.ensures.puts,
+          c.get.ensures.same_cells c.get.ensures.kept.shape c.requires.bytes (when_ok (c.get.new.into ≡ decoded_at meaning old c.args.place) c.get.result fine c.get.ensures.got)
+          c.put_bytes.ensures.sector c.put_bytes.ensures.puts,
       c.in-Ok.ensures.gated,
       passed_after_get meaning c.args.place c.args.header.now old mid (g.D.Die.state c.put_bytes.new.die) c.requires.bytes (when_ok (Passed 0 (reads_of meaning c.args.place) old mid) c.get.result fine c.get.ensures.passed) c.in-Ok.ensures.passed,
     )
@@ -31,6 +32,7 @@ returns-in-Err-clause-ends g c =
     let mid = g.D.Die.state c.get.new.die in
     let fine : is_err c.get.result ≡ false = sym c.is_err.ensures.value ∙ c.if-is_err.false in (
       bytes_put meaning c.args.spare c.args.page c.args.place c.args.header.now c.get.new.into old mid (g.D.Die.state c.put_bytes.new.die) c.args.book.now c.put_bytes.new.book c.args.seq.now c.put_bytes.new.seq
-          c.get.ensures.same_cells c.get.ensures.kept.shape c.requires.bytes (when_ok (c.get.new.into ≡ decoded_at meaning old c.args.place) c.get.result fine c.get.ensures.got) c.put_bytes.ensures.puts,
+          c.get.ensures.same_cells c.get.ensures.kept.shape c.requires.bytes (when_ok (c.get.new.into ≡ decoded_at meaning old c.args.place) c.get.result fine c.get.ensures.got)
+          c.put_bytes.ensures.sector c.put_bytes.ensures.puts,
       failed_after_get meaning c.args.place c.args.header.now old mid (g.D.Die.state c.put_bytes.new.die) c.requires.bytes (when_ok (Passed 0 (reads_of meaning c.args.place) old mid) c.get.result fine c.get.ensures.passed) c.in-Err.ensures.failed,
     )

@@ -62,7 +62,8 @@ returns-in-Err-clause-ends g c start stands =
     slot_failed (geometry_of (g.D.Die.state c.args.die.now).shape (g.C.Scheme.meaning c.args.scheme.now) (length c.args.map.now)) (g.C.Scheme.meaning c.args.scheme.now) c.args.spare start (store (g.D.Die.state c.args.die.now) c.args.map.now c.args.book.now c.args.seq.now) c.args.place (c.args.place.page % (g.D.Die.state c.args.die.now).shape.pages + 1) c.args.copies c.args.moves.now stands c.in-Some.header (sym c.requires.header ∙ c.in-Some.is) (sym c.is_live.ensures.named ∙ c.if-not-is_live.false)
     c.is_live.ensures.small (c.args.spare * c.pages.result + c.args.copies)
     (ap (λ (n : ℕ). c.args.spare * n + c.args.copies) (c.pages.ensures.value ∙ found_pages (geometry_of (g.D.Die.state c.args.die.now).shape (g.C.Scheme.meaning c.args.scheme.now) (length c.args.map.now)) (g.C.Scheme.meaning c.args.scheme.now) c.args.spare c.requires.stands.0 (store (g.D.Die.state c.args.die.now) c.args.map.now c.args.book.now c.args.seq.now) c.args.place (c.args.place.page % (g.D.Die.state c.args.die.now).shape.pages + 1) c.args.copies c.args.moves.now c.requires.stands.1 c.in-Some.header (sym c.requires.header ∙ c.in-Some.is) (sym c.is_live.ensures.named ∙ c.if-not-is_live.false)))
-    (g.D.Die.state c.copy_record.new.die) c.copy_record.new.book c.copy_record.new.seq c.copy_record.ensures.kept (g.met.D.Die.shaped c.args.die.now) (g.met.D.Die.shaped c.copy_record.new.die)
+    (g.D.Die.state c.copy_record.new.die) c.copy_record.new.book c.copy_record.new.seq c.copy_record.ensures.kept
+    (g.met.D.Die.shaped c.args.die.now) (g.met.D.Die.shaped c.copy_record.new.die) (g.met.C.Scheme.decodes c.args.scheme.now)
     (Unit {0}) c.in-Err.fault c.in-Err.ensures.ends
 
 pub returns-in-Ok-clause-ends : goal.returns-in-Ok-clause-ends
@@ -74,5 +75,6 @@ returns-in-Ok-clause-ends g c start stands =
     (slot_copied (geometry_of (g.D.Die.state c.args.die.now).shape (g.C.Scheme.meaning c.args.scheme.now) (length c.args.map.now)) (g.C.Scheme.meaning c.args.scheme.now) c.args.spare start (store (g.D.Die.state c.args.die.now) c.args.map.now c.args.book.now c.args.seq.now) c.args.place (c.args.place.page % (g.D.Die.state c.args.die.now).shape.pages + 1) c.args.copies c.args.moves.now stands c.in-Some.header (sym c.requires.header ∙ c.in-Some.is) (sym c.is_live.ensures.named ∙ c.if-not-is_live.false)
     c.is_live.ensures.small (c.args.spare * c.pages.result + c.args.copies)
     (ap (λ (n : ℕ). c.args.spare * n + c.args.copies) (c.pages.ensures.value ∙ found_pages (geometry_of (g.D.Die.state c.args.die.now).shape (g.C.Scheme.meaning c.args.scheme.now) (length c.args.map.now)) (g.C.Scheme.meaning c.args.scheme.now) c.args.spare c.requires.stands.0 (store (g.D.Die.state c.args.die.now) c.args.map.now c.args.book.now c.args.seq.now) c.args.place (c.args.place.page % (g.D.Die.state c.args.die.now).shape.pages + 1) c.args.copies c.args.moves.now c.requires.stands.1 c.in-Some.header (sym c.requires.header ∙ c.in-Some.is) (sym c.is_live.ensures.named ∙ c.if-not-is_live.false)))
-    (g.D.Die.state c.copy_record.new.die) c.copy_record.new.book c.copy_record.new.seq c.copy_record.ensures.kept (g.met.D.Die.shaped c.args.die.now) (g.met.D.Die.shaped c.copy_record.new.die)
+    (g.D.Die.state c.copy_record.new.die) c.copy_record.new.book c.copy_record.new.seq c.copy_record.ensures.kept
+    (g.met.D.Die.shaped c.args.die.now) (g.met.D.Die.shaped c.copy_record.new.die) (g.met.C.Scheme.decodes c.args.scheme.now)
     {T = Unit {0}} (tt {0}) c.in-Ok.ensures.ends)
