@@ -1,13 +1,12 @@
 -- The two tables against the definitions: every entry is tested over all words of seven cells.
-use Rattle.std.proofs.Common.{◌≡◌, ℕ, zero, suc, ◌<◌, Bool, true, not, ◌&&◌, ◌||◌, cond, List, [], ◌∷◌, get_or, eqb, ltb, inl, inr, sym, ◌∙◌, ap, refl, arith}
-use Rattle.std.proofs.lemmas.Bool.{agree_below, agree_below_at, and_parts, or_cases, not-true, true≢false, ltb-true, ne_eqb}
+use Rattle.std.proofs.Common.{◌≡◌, ℕ, zero, suc, ◌<◌, Bool, true, not, ◌&&◌, cond, List, [], ◌∷◌, get_or, eqb, ltb, sym, ◌∙◌, ap, refl, arith}
+use Rattle.std.proofs.lemmas.Bool.{agree_below, agree_below_at, and_parts, not-true, true≢false, ltb-true, ne_eqb}
 use Rattle.wom_code.specs.Cells.{NoneCarries}
 use Rattle.wom_code.specs.Packed.{cells_of}
 use Rattle.wom_code.proofs.WordTests.{same, same_to, carries_test, carries_from, carries_to, all_rows, all_rows_at}
 use Rattle.wom_code.proofs.TableCodes.{IsEntry}
 use Rattle.hamming_seven.specs.declared.tables.TheConstants.{MESSAGE, NEXT}
-use Rattle.hamming_seven.specs.Words.{message_of, added_from, comes_before, is_first}
-use Rattle.hamming_seven.proofs.FirstTest.{first_from}
+use Rattle.hamming_seven.specs.Words.{message_of, is_first}
 
 -- ---- the tables
 
@@ -23,46 +22,47 @@ next_at w m = get_or (get_or NEXT m []) w 0
 none_test : ℕ → ℕ → Bool
 none_test w m = all_rows 7 (λ new. not (carries_test message_of (word7 w) (message3 m) new))
 
-first_test : ℕ → ℕ → ℕ → Bool
-first_test w m next = all_rows 7 (λ new. not (carries_test message_of (word7 w) (message3 m) new) || (same new (word7 next) || comes_before (added_from 0 (word7 w) (word7 next)) (added_from 0 (word7 w) new)))
+-- a word of the table carries the message, and comes before all others
+given_test : ℕ → ℕ → ℕ → Bool
+given_test w m next = ltb next 128 && (carries_test message_of (word7 w) (message3 m) (word7 next) && is_first (word7 w) (message3 m) (word7 next))
 
 -- where the table has 128 there is no word, and elsewhere its word comes before all others
 entry_test : ℕ → ℕ → ℕ → Bool
-entry_test w m next = cond (eqb next 128) (none_test w m) (ltb next 128 && (carries_test message_of (word7 w) (message3 m) (word7 next) && first_test w m next))
+entry_test w m next = cond (eqb next 128) (none_test w m) (given_test w m next)
 
 row_test : ℕ → Bool
 row_test m = agree_below (λ w. entry_test w m (next_at w m)) (λ _. true) 128
 
 row_0 : row_test 0 ≡ true
-unfolding word7 message3 cells_of next_at none_test first_test entry_test row_test
+unfolding word7 message3 cells_of next_at none_test is_first given_test entry_test row_test
 row_0 = refl
 
 row_1 : row_test 1 ≡ true
-unfolding word7 message3 cells_of next_at none_test first_test entry_test row_test
+unfolding word7 message3 cells_of next_at none_test is_first given_test entry_test row_test
 row_1 = refl
 
 row_2 : row_test 2 ≡ true
-unfolding word7 message3 cells_of next_at none_test first_test entry_test row_test
+unfolding word7 message3 cells_of next_at none_test is_first given_test entry_test row_test
 row_2 = refl
 
 row_3 : row_test 3 ≡ true
-unfolding word7 message3 cells_of next_at none_test first_test entry_test row_test
+unfolding word7 message3 cells_of next_at none_test is_first given_test entry_test row_test
 row_3 = refl
 
 row_4 : row_test 4 ≡ true
-unfolding word7 message3 cells_of next_at none_test first_test entry_test row_test
+unfolding word7 message3 cells_of next_at none_test is_first given_test entry_test row_test
 row_4 = refl
 
 row_5 : row_test 5 ≡ true
-unfolding word7 message3 cells_of next_at none_test first_test entry_test row_test
+unfolding word7 message3 cells_of next_at none_test is_first given_test entry_test row_test
 row_5 = refl
 
 row_6 : row_test 6 ≡ true
-unfolding word7 message3 cells_of next_at none_test first_test entry_test row_test
+unfolding word7 message3 cells_of next_at none_test is_first given_test entry_test row_test
 row_6 = refl
 
 row_7 : row_test 7 ≡ true
-unfolding word7 message3 cells_of next_at none_test first_test entry_test row_test
+unfolding word7 message3 cells_of next_at none_test is_first given_test entry_test row_test
 row_7 = refl
 
 row : (m : ℕ) → m < 8 → agree_below (λ w. entry_test w m (next_at w m)) (λ _. true) 128 ≡ true
@@ -102,19 +102,14 @@ none_at w m h i e new len c =
     true≢false (sym (carries_from message_of _ _ new c) ∙ f)
 
 pub entry_at : (w m : ℕ) → w < 128 → m < 8 → (get_or (get_or NEXT m []) w 0 ≡ 128 → ⊥) → IsEntry message_of is_first 3 7 w m (get_or (get_or NEXT m []) w 0)
-unfolding word7 message3 next_at first_test entry_test
+unfolding word7 message3 next_at given_test entry_test
 entry_at w m h i n =
     let next : ℕ = next_at w m in
-    let t : (ltb next 128 && (carries_test message_of (word7 w) (message3 m) (word7 next) && first_test w m next)) ≡ true =
-    sym (ap (λ b. cond b (none_test w m) (ltb next 128 && (carries_test message_of (word7 w) (message3 m) (word7 next) && first_test w m next))) (ne_eqb next 128 n)) ∙ entry w m h i in
+    let t : given_test w m next ≡ true = sym (ap (λ b. cond b (none_test w m) (given_test w m next)) (ne_eqb next 128 n)) ∙ entry w m h i in
     let parts = and_parts _ _ t in
     let rest = and_parts _ _ parts.1 in
     record {
       word = ltb-true next 128 parts.0;
       carries = carries_to message_of _ _ _ rest.0;
-      given = first_from (word7 w) (message3 m) (word7 next) (λ cells len c.
-          let u = all_rows_at 7 (λ new. not (carries_test message_of (word7 w) (message3 m) new) || (same new (word7 next) || comes_before (added_from 0 (word7 w) (word7 next)) (added_from 0 (word7 w) new))) rest.1 cells len in
-          let other : (same cells (word7 next) || comes_before (added_from 0 (word7 w) (word7 next)) (added_from 0 (word7 w) cells)) ≡ true =
-          elim (or_cases _ _ u) [ inl v ↦ absurd (true≢false (sym (carries_from message_of _ _ cells c) ∙ not-true _ v)) | inr v ↦ v ] in
-          elim (or_cases _ _ other) [ inl v ↦ inl (same_to _ _ v) | inr v ↦ inr v ]);
+      given = rest.1;
     }

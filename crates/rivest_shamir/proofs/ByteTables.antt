@@ -35,7 +35,8 @@ triple_of a b c d t h = lifted (four a b c d) form 3 16 (λ t. bit (t / 4) (t % 
 abbrev pub IsByte : (List Bool → List Bool) → ℕ → ℕ → ℕ → Type 0
 IsByte f messages k word = (j : ℕ) → j < 4 → chunk_of 3 word j ≡ f (chunk_of 2 messages (4 * k + j))
 
-byte_of : (f : List Bool → List Bool) (messages a b c d k : ℕ) → k < 4 → IsByte f messages 0 a → IsByte f messages 1 b → IsByte f messages 2 c → IsByte f messages 3 d → IsByte f messages k (four a b c d k)
+byte_of : (f : List Bool → List Bool) (messages a b c d k : ℕ) → k < 4 → IsByte f messages 0 a → IsByte f messages 1 b → IsByte f messages 2 c → IsByte f messages 3 d →
+    IsByte f messages k (four a b c d k)
 unfolding four
 byte_of f messages a b c d zero h p q r s = p
 byte_of f messages a b c d (suc zero) h p q r s = q

@@ -17,7 +17,8 @@ module _ (decode : List Bool → List Bool) (after : List Bool → Bool) (old me
       → (cells : List Bool) → length cells ≡ n → Carries decode old message cells → (cells ≡ new) ⊎ (after cells ≡ true)
   unfolding row_test
   each_to n t cells len carries =
-      elim (or_cases _ _ (implied_to (is_carrying decode old message cells) (is_same cells new || after cells) (every_row_to n row_test t cells len) (is_carrying_from decode old message cells carries))) [
+      let carrying : is_carrying decode old message cells ≡ true = is_carrying_from decode old message cells carries in
+      elim (or_cases _ _ (implied_to (is_carrying decode old message cells) (is_same cells new || after cells) (every_row_to n row_test t cells len) carrying)) [
         | inl same ↦ inl (is_same_to cells new same)
         | inr later ↦ inr later
       ]

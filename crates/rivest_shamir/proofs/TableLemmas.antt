@@ -1,13 +1,12 @@
 -- The two tables against the definitions: every entry is tested over all words of three cells.
-use Rattle.std.proofs.Common.{◌≡◌, ℕ, ◌<◌, Bool, true, not, ◌&&◌, ◌||◌, cond, List, [], ◌∷◌, get_or, eqb, ltb, inl, inr, sym, ◌∙◌, ap, refl}
-use Rattle.std.proofs.lemmas.Bool.{agree_below, agree_below_at, and_parts, or_cases, not-true, true≢false, ltb-true, ne_eqb}
-use Rattle.wom_code.specs.Cells.{NoneCarries, charge_of}
+use Rattle.std.proofs.Common.{◌≡◌, ℕ, ◌<◌, Bool, true, not, ◌&&◌, cond, List, [], ◌∷◌, get_or, eqb, ltb, sym, ◌∙◌, ap, refl}
+use Rattle.std.proofs.lemmas.Bool.{agree_below, agree_below_at, and_parts, not-true, true≢false, ltb-true, ne_eqb}
+use Rattle.wom_code.specs.Cells.{NoneCarries}
 use Rattle.wom_code.specs.Packed.{cells_of}
 use Rattle.wom_code.proofs.WordTests.{same, same_to, carries_test, carries_from, carries_to, all_rows, all_rows_at}
 use Rattle.wom_code.proofs.TableCodes.{IsEntry}
 use Rattle.rivest_shamir.specs.declared.TheConstants.{MESSAGE, NEXT}
 use Rattle.rivest_shamir.specs.Words.{message_of, is_least}
-use Rattle.rivest_shamir.proofs.GivenTests.{least_from}
 
 -- ---- the tables
 
@@ -23,15 +22,16 @@ next_at w m = get_or (get_or NEXT m []) w 0
 none_test : ℕ → ℕ → Bool
 none_test w m = all_rows 3 (λ new. not (carries_test message_of (word3 w) (message2 m) new))
 
-least_test : ℕ → ℕ → ℕ → Bool
-least_test w m next = all_rows 3 (λ new. not (carries_test message_of (word3 w) (message2 m) new) || (same new (word3 next) || ltb (charge_of (word3 next)) (charge_of new)))
+-- a word of the table carries the message, and is the least
+given_test : ℕ → ℕ → ℕ → Bool
+given_test w m next = ltb next 8 && (carries_test message_of (word3 w) (message2 m) (word3 next) && is_least (word3 w) (message2 m) (word3 next))
 
 -- where the table has 8 there is no word, and elsewhere its word is the least
 entry_test : ℕ → ℕ → ℕ → Bool
-entry_test w m next = cond (eqb next 8) (none_test w m) (ltb next 8 && (carries_test message_of (word3 w) (message2 m) (word3 next) && least_test w m next))
+entry_test w m next = cond (eqb next 8) (none_test w m) (given_test w m next)
 
 all_entries : agree_below (λ m. agree_below (λ w. entry_test w m (next_at w m)) (λ _. true) 8) (λ _. true) 4 ≡ true
-unfolding word3 message2 cells_of next_at none_test least_test entry_test
+unfolding word3 message2 cells_of next_at none_test is_least given_test entry_test
 all_entries = refl
 
 entry : (w m : ℕ) → w < 8 → m < 4 → entry_test w m (next_at w m) ≡ true
@@ -62,18 +62,14 @@ none_at w m h i e new len c =
     true≢false (sym (carries_from message_of _ _ new c) ∙ f)
 
 pub entry_at : (w m : ℕ) → w < 8 → m < 4 → (get_or (get_or NEXT m []) w 0 ≡ 8 → ⊥) → IsEntry message_of is_least 2 3 w m (get_or (get_or NEXT m []) w 0)
-unfolding word3 message2 next_at least_test entry_test
+unfolding word3 message2 next_at given_test entry_test
 entry_at w m h i n =
     let next : ℕ = next_at w m in
-    let t : (ltb next 8 && (carries_test message_of (word3 w) (message2 m) (word3 next) && least_test w m next)) ≡ true =
-    sym (ap (λ b. cond b (none_test w m) (ltb next 8 && (carries_test message_of (word3 w) (message2 m) (word3 next) && least_test w m next))) (ne_eqb next 8 n)) ∙ entry w m h i in
+    let t : given_test w m next ≡ true = sym (ap (λ b. cond b (none_test w m) (given_test w m next)) (ne_eqb next 8 n)) ∙ entry w m h i in
     let parts = and_parts _ _ t in
     let rest = and_parts _ _ parts.1 in
     record {
       word = ltb-true next 8 parts.0;
       carries = carries_to message_of _ _ _ rest.0;
-      given = least_from (word3 w) (message2 m) (word3 next) (λ cells len c.
-          let u = all_rows_at 3 (λ new. not (carries_test message_of (word3 w) (message2 m) new) || (same new (word3 next) || ltb (charge_of (word3 next)) (charge_of new))) rest.1 cells len in
-          let other : (same cells (word3 next) || ltb (charge_of (word3 next)) (charge_of cells)) ≡ true = elim (or_cases _ _ u) [ inl v ↦ absurd (true≢false (sym (carries_from message_of _ _ cells c) ∙ not-true _ v)) | inr v ↦ v ] in
-          elim (or_cases _ _ other) [ inl v ↦ inl (same_to _ _ v) | inr v ↦ inr (ltb-true _ _ v) ]);
+      given = rest.1;
     }

@@ -1,17 +1,16 @@
 -- What the operations on whole words make of one triple, against the rule: all 32 cases are computed.
-use Rattle.std.proofs.Common.{◌≡◌, ℕ, zero, suc, ◌+◌, ◌-◌, ◌*◌, ◌/◌, ◌%◌, ◌^◌, ◌<◌, ◌≤◌, ◌==◌, Bool, true, false, not, ◌&&◌, ◌||◌, cond, List, [], ◌∷◌, length, get_or, bit_and, bit_or, bit_xor, min, ltb, sym, ◌∙◌, ap, ap₂, subst, refl, inl, inr, arith}
+use Rattle.std.proofs.Common.{◌≡◌, ℕ, zero, suc, ◌+◌, ◌-◌, ◌*◌, ◌/◌, ◌%◌, ◌^◌, ◌<◌, ◌≤◌, ◌==◌, Bool, true, false, not, ◌&&◌, ◌||◌, cond, List, [], ◌∷◌, length, get_or, bit_and, bit_or, bit_xor, min, sym, ◌∙◌, ap, ap₂, subst, refl, inl, inr, arith}
 use Rattle.std.specs.Int.{bit_at, w64, trailing_zeros}
-use Rattle.std.proofs.lemmas.Bool.{and_parts, or_cases, or_from, or_left, or_right, not-true, true≢false, ltb-true, cases_lt, cond-true, cond-false}
+use Rattle.std.proofs.lemmas.Bool.{and_parts, or_from, or_left, or_right, not-true, true≢false, cases_lt, cond-true, cond-false}
 use Rattle.std.proofs.lemmas.Nat.{and_mask, mod_below, pow_pos, pow_below, row_fits}
 use Rattle.std.proofs.lemmas.Nat.Bits.{bit_at_and, bit_at-lt, bit_at-zero, bit_at_ones, bit_at_ones_above, bit_at-trailing_zeros}
 use Rattle.std.proofs.lemmas.List.{ext_get_or}
-use Rattle.wom_code.specs.Cells.{cell_at, Carries, NoneCarries, charge_of}
+use Rattle.wom_code.specs.Cells.{cell_at, Carries, NoneCarries}
 use Rattle.wom_code.proofs.GroupLemmas.{length-chunk_of, get_or-chunk_of, same_chunk_of}
 use Rattle.wom_code.proofs.WordTests.{same, same_to, carries_test, carries_from, carries_to, all_rows, all_rows_at}
 use Rattle.wom_code.specs.Groups.{chunk_of}
 use Rattle.rivest_shamir.specs.Triples.{odd_of, differ_of, either_of, both_of, others_of, with_sum, least_of}
 use Rattle.rivest_shamir.specs.Words.{message_of, is_least}
-use Rattle.rivest_shamir.proofs.GivenTests.{least_from}
 use Rattle.rivest_shamir.proofs.WordForms.{both, either, apart, given, bit, and, or, sum, lifted}
 
 -- ---- chunks of a word
@@ -71,14 +70,14 @@ some_of cells = cell_at cells 0 || (cell_at cells 1 || cell_at cells 2)
 none_test : List Bool → List Bool → Bool
 none_test cells message = all_rows 3 (λ new. not (carries_test message_of cells message new))
 
-least_test : List Bool → List Bool → Bool
-least_test cells message = all_rows 3 (λ new. not (carries_test message_of cells message new) || (same new (new_of cells message) || ltb (charge_of (new_of cells message)) (charge_of new)))
+given_test : List Bool → List Bool → Bool
+given_test cells message = carries_test message_of cells message (new_of cells message) && is_least cells message (new_of cells message)
 
 triple_test : List Bool → List Bool → Bool
-triple_test cells message = cond (some_of (lost_of cells message)) (none_test cells message) (carries_test message_of cells message (new_of cells message) && least_test cells message)
+triple_test cells message = cond (some_of (lost_of cells message)) (none_test cells message) (given_test cells message)
 
 all_triples : all_rows 3 (λ cells. all_rows 2 (λ message. triple_test cells message)) ≡ true
-unfolding one_of two_of new_of lost_of some_of none_test least_test triple_test
+unfolding one_of two_of new_of lost_of some_of none_test is_least given_test triple_test
 all_triples = refl
 
 triple : (cells message : List Bool) → length cells ≡ 3 → length message ≡ 2 → triple_test cells message ≡ true
@@ -87,7 +86,7 @@ triple cells message c m = all_rows_at 2 (λ ms. triple_test cells ms) (all_rows
 triple_declines : (cells message : List Bool) → length cells ≡ 3 → length message ≡ 2 → some_of (lost_of cells message) ≡ true → NoneCarries message_of 3 cells message
 unfolding none_test triple_test
 triple_declines cells message c m e new len carries =
-    let t : none_test cells message ≡ true = sym (cond-true (some_of (lost_of cells message)) (none_test cells message) (carries_test message_of cells message (new_of cells message) && least_test cells message) e) ∙ triple cells message c m in
+    let t : none_test cells message ≡ true = sym (cond-true (some_of (lost_of cells message)) (none_test cells message) (given_test cells message) e) ∙ triple cells message c m in
     let f = not-true _ (all_rows_at 3 (λ n. not (carries_test message_of cells message n)) t new len) in
     true≢false (sym (carries_from message_of cells message new carries) ∙ f)
 
@@ -97,19 +96,11 @@ pub record IsGiven (cells message new : List Bool) : Type 0 where
   pub least : is_least cells message new ≡ true
 
 triple_given : (cells message : List Bool) → length cells ≡ 3 → length message ≡ 2 → some_of (lost_of cells message) ≡ false → IsGiven cells message (new_of cells message)
-unfolding least_test triple_test
+unfolding given_test triple_test
 triple_given cells message c m e =
-    let t : (carries_test message_of cells message (new_of cells message) && least_test cells message) ≡ true =
-    sym (cond-false (some_of (lost_of cells message)) (none_test cells message) (carries_test message_of cells message (new_of cells message) && least_test cells message) e) ∙ triple cells message c m in
+    let t : given_test cells message ≡ true = sym (cond-false (some_of (lost_of cells message)) (none_test cells message) (given_test cells message) e) ∙ triple cells message c m in
     let parts = and_parts _ _ t in
-    record {
-      carries = carries_to message_of cells message (new_of cells message) parts.0;
-      least = least_from cells message (new_of cells message) (λ other len carries.
-          let u = all_rows_at 3 (λ new. not (carries_test message_of cells message new) || (same new (new_of cells message) || ltb (charge_of (new_of cells message)) (charge_of new))) parts.1 other len in
-          let v : (same other (new_of cells message) || ltb (charge_of (new_of cells message)) (charge_of other)) ≡ true =
-          elim (or_cases _ _ u) [ inl w ↦ absurd (true≢false (sym (carries_from message_of cells message other carries) ∙ not-true _ w)) | inr w ↦ w ] in
-          elim (or_cases _ _ v) [ inl w ↦ inl (same_to _ _ w) | inr w ↦ inr (ltb-true _ _ w) ]);
-    }
+    record { carries = carries_to message_of cells message (new_of cells message) parts.0; least = parts.1 }
 
 -- ---- all triples of a word
 

@@ -44,7 +44,8 @@ returns-clause-row c = λ answer.
 pub returns-clause-carried : goal.returns-clause-carried
 returns-clause-carried c = λ answer.
     (written c.args.old.now c.args.msg.now c.args.out.now c.requires.old c.requires.message c.requires.out
-    (one_word 7 c.args.old.now c.requires.old (omega arith) (c.type_inv.old 0).fits) (one_word 3 c.args.msg.now c.requires.message (omega arith) (c.type_inv.msg 0).fits) c.if-next-eq-NONE.false).carries
+    (one_word 7 c.args.old.now c.requires.old (omega arith) (c.type_inv.old 0).fits) (one_word 3 c.args.msg.now c.requires.message (omega arith) (c.type_inv.msg 0).fits)
+    c.if-next-eq-NONE.false).carries
 
 pub returns-clause-given : goal.returns-clause-given
 returns-clause-given c = λ answer.
@@ -81,6 +82,7 @@ returns-clause-second_write c = λ stage.
 
 pub returns-then-next-eq-NONE-clause-third_write : goal.returns-then-next-eq-NONE-clause-third_write
 returns-then-next-eq-NONE-clause-third_write c = λ stage.
-    absurd (third_write (cells_of 7 c.args.old.now) (cells_of 3 c.args.msg.now) (length-cells_of 7 c.args.old.now) (length-cells_of 3 c.args.msg.now) stage (none_written message_of 3 7 c.args.old.now c.args.msg.now c.requires.old.count c.requires.message.count
+    absurd (third_write (cells_of 7 c.args.old.now) (cells_of 3 c.args.msg.now) (length-cells_of 7 c.args.old.now) (length-cells_of 3 c.args.msg.now) stage
+    (none_written message_of 3 7 c.args.old.now c.args.msg.now c.requires.old.count c.requires.message.count
     (none_at (get_or c.args.old.now 0 0) (get_or c.args.msg.now 0 0)
     (one_word 7 c.args.old.now c.requires.old (omega arith) (c.type_inv.old 0).fits) (one_word 3 c.args.msg.now c.requires.message (omega arith) (c.type_inv.msg 0).fits) c.if-next-eq-NONE.true)))

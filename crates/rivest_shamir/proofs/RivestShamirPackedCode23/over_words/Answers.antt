@@ -41,7 +41,8 @@ returns-clause-row c = λ answer.
 pub returns-clause-carried : goal.returns-clause-carried
 returns-clause-carried c = λ answer.
     (written c.args.old.now c.args.msg.now c.args.out.now c.requires.old c.requires.message c.requires.out
-    (one_word 3 c.args.old.now c.requires.old (omega arith) (c.type_inv.old 0).fits) (one_word 2 c.args.msg.now c.requires.message (omega arith) (c.type_inv.msg 0).fits) c.if-next-eq-NONE.false).carries
+    (one_word 3 c.args.old.now c.requires.old (omega arith) (c.type_inv.old 0).fits) (one_word 2 c.args.msg.now c.requires.message (omega arith) (c.type_inv.msg 0).fits)
+    c.if-next-eq-NONE.false).carries
 
 pub returns-clause-given : goal.returns-clause-given
 returns-clause-given c = λ answer.
