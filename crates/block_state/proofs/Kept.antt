@@ -66,11 +66,20 @@ module _ (v : BookValue) (order by_live : Lists) (active : Option ℕ) (kept : I
   pub live_free : (b : ℕ) → is_closed (state_at v b) ≡ false → IsFree by_live.lists b
   live_free b open' k = omega (arith, ap (times b) (kept.parts k), times-filter-le (λ c. eqb (live_at v c) k) b v.order, none_open b open')
 
+  pub state_read : (b : ℕ) (s : State) → b < length v.states → s ≡ get_or v.states b s → s ≡ state_at v b
+  state_read b s within read = read ∙ get_or_default v.states b s Clean within
+
   pub state_is : (b : ℕ) (s : State) (w : Bool) → b < length v.states → s ≡ get_or v.states b s → w ≡ is_closed s → w ≡ is_closed (state_at v b)
-  state_is b s w within read is = is ∙ ap is_closed (read ∙ get_or_default v.states b s Clean within)
+  state_is b s w within read is = is ∙ ap is_closed (state_read b s within read)
+
+  pub state_in_range : (b : ℕ) (s : State) → b < length v.states → s ≡ get_or v.states b s → InRange v.pages v.units v.generations s
+  state_in_range b s within read = subst (InRange v.pages v.units v.generations) (sym (state_read b s within read)) (kept.valid.in_range b)
 
   pub count_is : (b n : ℕ) → b < length v.states → n ≡ get_or v.live b n → n ≡ live_at v b
   count_is b n within read = read ∙ get_or_default v.live b n 0 (omega (arith, kept.valid.counts))
+
+  pub live_within : (b : ℕ) → b < length v.states → b < length v.live
+  live_within b within = omega (arith, kept.valid.counts)
 
   -- the Active block is one of the blocks
   pub active_within : (o : Option ℕ) → o ≡ active → IfSome o (λ b. b < length v.states)

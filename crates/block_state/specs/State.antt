@@ -12,10 +12,25 @@ is_closed (Recycled level next) = true
 is_closed Reused = true
 is_closed (Spare blank) = false
 
+-- nothing is written in a Clean block
+abbrev pub is_clean : State → Bool
+is_clean Clean = true
+is_clean _ = false
+
 -- first writes go to an Active block
 abbrev pub is_active : State → Bool
 is_active (Active fill) = true
 is_active _ = false
+
+-- the pages of a Used block are written, and it takes no write
+abbrev pub is_used : State → Bool
+is_used (Used level) = true
+is_used _ = false
+
+-- later writes go to a Recycled block
+abbrev pub is_recycled : State → Bool
+is_recycled (Recycled level next) = true
+is_recycled _ = false
 
 -- the next collection copies to a Spare block
 abbrev pub is_spare : State → Bool

@@ -4,8 +4,10 @@ ghost use Rattle.std.specs.Prelude.{◌≡◌, ◌+◌, ◌-◌, ◌*◌, ◌<�
 ghost use Rattle.block_state.specs.State.{is_active, InRange};
 ghost use Rattle.block_state.specs.Book.{IsValid, IsActive, IsSpare, HasOneSpare, NoneActive, NoneClosed, state_at, live_at, with_state, with_live};
 ghost use Rattle.block_state.specs.Victim.{IsLeast, IsVictim, IsIdleVictim, NoneFits};
+ghost use Rattle.block_state.specs.Lowest.{IsClean, IsRecycled, IsEmptyUsed, NoneCleanBelow, NoneRecycledBelow, NoneEmptyUsedBelow, recycled_count};
 ghost use Rattle.block_state.specs.Kept.{is_at};
 
+use crate::kinds::Kinds;
 use crate::relist::{move_to_back, relist};
 use crate::state::State;
 use block_links::Links;
@@ -26,6 +28,8 @@ pub struct Book {
     by_live: Links,
     // the Active block
     active: Option<u32>,
+    // the blocks that are looked for by their kind
+    kinds: Kinds,
     pages: u32,
     units: u32,
     generations: u32,
@@ -35,7 +39,7 @@ impl Model for Book {
     ghost use Rattle.std.specs.Prelude.{ℕ};
     ghost use Rattle.block_links.specs.Lists.{list_at};
     ghost use Rattle.block_state.specs.Book.{BookValue};
-    ghost use Rattle.block_state.specs.Kept.{IsKept};
+    ghost use Rattle.block_state.specs.Kept.{IsBook};
 
     ghost Value = { BookValue };
 
@@ -48,14 +52,14 @@ impl Model for Book {
       generations = a.generations;
     } };
 
-    ghost invariant = { λ a. IsKept (record {
+    ghost invariant = { λ a. IsBook (record {
       states = a.states.items;
       live = a.live.items;
       order = list_at a.order.lists 0;
       pages = a.pages;
       units = a.units;
       generations = a.generations;
-    }) a.order a.by_live a.active };
+    }) a.order a.by_live a.active a.kinds };
 }
 
 /// The block that is Active after a block has taken a state.
@@ -107,6 +111,7 @@ impl Book {
             order,
             by_live,
             active: None,
+            kinds: Kinds::new(blocks),
             pages,
             units,
             generations,
@@ -185,6 +190,7 @@ impl Book {
         let count = self.live[block as usize];
         relist(&mut self.order, was, state.is_closed(), 0, block);
         relist(&mut self.by_live, was, state.is_closed(), count, block);
+        self.kinds.put(block, state, count);
         self.active = active_after(self.active, block, state);
         self.states[block as usize] = state;
     }
@@ -195,9 +201,10 @@ impl Book {
         requires few { count ≤ self.old.generations * self.old.pages }
         ensures { self.new ≡ with_live self.old block count }
     {
-        let closed = self.states[block as usize].is_closed();
+        let state = self.states[block as usize];
         self.live[block as usize] = count;
-        if closed {
+        self.kinds.put(block, state, count);
+        if state.is_closed() {
             move_to_back(&mut self.order, 0, block);
             move_to_back(&mut self.by_live, count, block);
         }
@@ -269,6 +276,37 @@ impl Book {
         ensures none { IfNone result (NoneFits self.now 1 room) }
     {
         self.least(1, room.min(self.generations * self.pages))
+    }
+
+    /// The lowest Clean block.
+    pub fn lowest_clean(&self) -> Option<u32>
+        ensures found { IfSome result (λ b. IsClean self.now b × NoneCleanBelow self.now b) }
+        ensures none { IfNone result (NoneCleanBelow self.now (length self.now.states)) }
+    {
+        self.kinds.clean.lowest()
+    }
+
+    /// The lowest Recycled block.
+    pub fn lowest_recycled(&self) -> Option<u32>
+        ensures found { IfSome result (λ b. IsRecycled self.now b × NoneRecycledBelow self.now b) }
+        ensures none { IfNone result (NoneRecycledBelow self.now (length self.now.states)) }
+    {
+        self.kinds.recycled.lowest()
+    }
+
+    /// The lowest Used block with no live record.
+    pub fn lowest_empty_used(&self) -> Option<u32>
+        ensures found { IfSome result (λ b. IsEmptyUsed self.now b × NoneEmptyUsedBelow self.now b) }
+        ensures none { IfNone result (NoneEmptyUsedBelow self.now (length self.now.states)) }
+    {
+        self.kinds.empty_used.lowest()
+    }
+
+    /// How many blocks are Recycled.
+    pub fn recycled_count(&self) -> u32
+        ensures { result ≡ recycled_count self.now }
+    {
+        self.kinds.recycled_count
     }
 
     /// The one Spare block.

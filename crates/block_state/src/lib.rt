@@ -2,7 +2,9 @@
 //! It knows blocks and counts, and nothing of sectors, records or the die.
 #![tactic(auto)]
 
+mod block_set;
 pub mod book;
+mod kinds;
 mod relist;
 pub mod state;
 

@@ -29,7 +29,7 @@ pub enum State {
 }
 
 impl State {
-    ghost use Rattle.block_state.specs.State.{is_closed as closed_of, is_active as active_of};
+    ghost use Rattle.block_state.specs.State.{is_closed as closed_of, is_clean as clean_of, is_active as active_of, is_used as used_of, is_recycled as recycled_of};
 
     /// Whether the block is Used, Recycled or Reused.
     pub(crate) fn is_closed(self) -> bool
@@ -41,10 +41,31 @@ impl State {
         )
     }
 
+    /// Whether the block is Clean.
+    pub(crate) fn is_clean(self) -> bool
+        ensures { result ≡ clean_of self }
+    {
+        matches!(self, State::Clean)
+    }
+
     /// Whether the block is Active.
     pub(crate) fn is_active(self) -> bool
         ensures { result ≡ active_of self }
     {
         matches!(self, State::Active { .. })
+    }
+
+    /// Whether the block is Used.
+    pub(crate) fn is_used(self) -> bool
+        ensures { result ≡ used_of self }
+    {
+        matches!(self, State::Used { .. })
+    }
+
+    /// Whether the block is Recycled.
+    pub(crate) fn is_recycled(self) -> bool
+        ensures { result ≡ recycled_of self }
+    {
+        matches!(self, State::Recycled { .. })
     }
 }

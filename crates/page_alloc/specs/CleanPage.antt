@@ -1,18 +1,11 @@
 -- The clean page rule: four branches, of which the first that applies holds.
 use Rattle.std.specs.Prelude.{ℕ, ◌≡◌, ◌+◌, ◌*◌, ◌<◌, length}
-use Rattle.block_state.specs.declared.state.State.TheVariants.{Clean, Active}
+use Rattle.block_state.specs.declared.state.State.TheVariants.{Active}
 use Rattle.block_state.specs.Book.{BookValue, state_at, live_at, IsSpare, NoneActive}
 use Rattle.block_state.specs.Victim.{IsVictim}
+pub use Rattle.block_state.specs.Lowest.{IsClean, NoneCleanBelow}
 use Rattle.page_alloc.specs.declared.next_page.NextPage.{NextPage}
 use Rattle.page_alloc.specs.declared.next_page.NextPage.TheVariants.{Page, Take, Wipe, Collect}
-
--- the block is one of the book's, and Clean
-abbrev pub IsClean : BookValue → ℕ → Type 0
-IsClean v b = (b < length v.states) × (state_at v b ≡ Clean)
-
--- no block below n is Clean
-abbrev pub NoneCleanBelow : BookValue → ℕ → Type 0
-NoneCleanBelow v n = (b : ℕ) → b < n → IsClean v b → ⊥
 
 -- page branch: where a block is Active, its page number fill
 abbrev pub IsPageBranch : BookValue → ℕ → Type 0

@@ -1,8 +1,8 @@
 //! The page after the last one written, else the lowest Clean block, else the victim: erased where nothing lives in it, and else
 //! collected into the Spare.
-ghost use Rattle.std.specs.Prelude.{◌≤◌, length, IfSome, IfNone};
+ghost use Rattle.std.specs.Prelude.{◌≤◌, length};
 ghost use Rattle.block_state.specs.Book.{HasOneSpare};
-ghost use Rattle.page_alloc.specs.CleanPage.{IsNext, IsClean, NoneCleanBelow};
+ghost use Rattle.page_alloc.specs.CleanPage.{IsNext};
 
 use block_state::{Book, State};
 
@@ -19,19 +19,6 @@ pub enum NextPage {
     Collect { victim: u32, spare: u32 },
 }
 
-/// The lowest Clean block.
-fn lowest_clean(book: &Book) -> Option<u32>
-    ensures found { IfSome result (λ b. IsClean book.now b × NoneCleanBelow book.now b) }
-    ensures none { IfNone result (NoneCleanBelow book.now (length book.now.states)) }
-{
-    for block in 0..book.blocks() {
-        if book.state_of(block) == State::Clean {
-            return Some(block);
-        }
-    }
-    None
-}
-
 /// What gives the next record a page, by the clean page rule.
 pub fn next(book: &Book) -> NextPage
     requires spare { HasOneSpare book.now }
@@ -44,7 +31,7 @@ pub fn next(book: &Book) -> NextPage
         };
         return NextPage::Page(block * book.pages() + fill);
     }
-    if let Some(block) = lowest_clean(book) {
+    if let Some(block) = book.lowest_clean() {
         return NextPage::Take(block);
     }
     let Some(victim) = book.victim() else {

@@ -1,6 +1,6 @@
 -- What one step of recycling changes, and what a whole run keeps.
-use Rattle.std.proofs.Common.{◌≡◌, ℕ, ◌+◌, ◌<◌, ◌≤◌, inl, inr, true, false, cond, length, refl, sym, ap, ◌∙◌, subst, arith, get_or-set_same, get_or-set_other}
-use Rattle.std.proofs.lemmas.Bool.{cases_eq, cases_lt, false≢true}
+use Rattle.std.proofs.Common.{◌≡◌, ℕ, ◌+◌, ◌<◌, ◌≤◌, inl, inr, true, false, cond, length, refl, sym, ap, ◌∙◌, arith}
+use Rattle.std.proofs.lemmas.Bool.{cases_lt, false≢true}
 use Rattle.std.proofs.lemmas.List.{get_or_past}
 use Rattle.std.proofs.lemmas.List.Sums.{sum_by-set}
 use Rattle.block_state.specs.declared.state.State.{State}
@@ -36,14 +36,6 @@ module _ (v : BookValue) (b : ℕ) (within : b < length v.states) (due : IsDue v
       let before : ones (state_at v b) ≡ 0 = ap (λ t. cond t 1 0) (not_recycled (state_at v b) due.0) in
       let now : ones (recycled (state_at v b)) ≡ 1 = ap (λ t. cond t 1 0) (now_recycled (state_at v b) due.0).0 in
       omega (arith, sum_by-set ones v.states b (recycled (state_at v b)) Clean within, before, now)
-
-  pub none_due-after : ((c : ℕ) → c < b → IsDue v c → ⊥) → (c : ℕ) → c < b + 1 → IsDue after c → ⊥
-  none_due-after none c below due_c = elim (cases_eq c b) [
-    | inl same ↦
-        let used = subst (λ (d : ℕ). is_used (state_at after d) ≡ true) same due_c.0 in
-        false≢true (sym (now_recycled (state_at v b) due.0).1 ∙ ap is_used (sym (get_or-set_same v.states b (recycled (state_at v b)) Clean within)) ∙ used)
-    | inr other ↦ none c (omega arith) (ap is_used (sym (get_or-set_other v.states b c (recycled (state_at v b)) Clean other)) ∙ due_c.0, due_c.1, due_c.2)
-  ]
 
 -- a due block is one of the blocks
 pub due_within : (v : BookValue) (b : ℕ) → IsDue v b → b < length v.states

@@ -1,22 +1,11 @@
 -- The offer: the next unit of the lowest Recycled block.
-use Rattle.std.specs.Prelude.{ℕ, ◌≡◌, ◌+◌, ◌<◌, ◌==◌, if◌then◌else◌, IsTrue, Bool, true, false, length}
+use Rattle.std.specs.Prelude.{◌≡◌, ◌+◌, ◌<◌, ◌==◌, if◌then◌else◌, length}
 use Rattle.block_state.specs.declared.state.State.{State}
 use Rattle.block_state.specs.declared.state.State.TheVariants.{Used, Recycled, Reused}
 use Rattle.block_state.specs.Book.{BookValue, state_at}
+pub use Rattle.block_state.specs.State.{is_recycled}
+pub use Rattle.block_state.specs.Lowest.{IsRecycled, NoneRecycledBelow}
 use Rattle.reuse_pool.specs.declared.unit.ReuseUnit.{ReuseUnit}
-
--- the state is Recycled
-abbrev pub is_recycled : State → Bool
-is_recycled (Recycled level next) = true
-is_recycled _ = false
-
--- the block is Recycled
-abbrev pub IsRecycled : BookValue → ℕ → Type 0
-IsRecycled v b = IsTrue (is_recycled (state_at v b))
-
--- no block below n is Recycled
-abbrev pub NoneRecycledBelow : BookValue → ℕ → Type 0
-NoneRecycledBelow v n = (b : ℕ) → b < n → IsRecycled v b → ⊥
 
 -- the unit `next`, with the slot `level`, of the lowest Recycled block
 abbrev pub IsOffer : BookValue → ReuseUnit → Type 0

@@ -1,15 +1,10 @@
 -- The recycling rule: while few blocks are Recycled, the lowest Used block without live records becomes Recycled.
-use Rattle.std.specs.Prelude.{ℕ, ◌≡◌, ◌+◌, ◌<◌, ◌≤◌, IsTrue, Bool, true, false}
-use Rattle.std.specs.List.{count_by}
+use Rattle.std.specs.Prelude.{ℕ, ◌≡◌, ◌+◌, ◌<◌, ◌≤◌, IsTrue}
 use Rattle.block_state.specs.declared.state.State.{State}
 use Rattle.block_state.specs.declared.state.State.TheVariants.{Clean, Active, Used, Recycled, Reused, Spare}
 use Rattle.block_state.specs.Book.{BookValue, state_at, live_at, with_state}
-use Rattle.reuse_pool.specs.Offer.{is_recycled}
-
--- the state is Used
-abbrev pub is_used : State → Bool
-is_used (Used level) = true
-is_used _ = false
+pub use Rattle.block_state.specs.State.{is_used}
+pub use Rattle.block_state.specs.Lowest.{recycled_count}
 
 -- the block is Used and has no live record, and blocks have units
 abbrev pub IsDue : BookValue → ℕ → Type 0
@@ -23,10 +18,6 @@ recycled (Used level) = Recycled (level + 1) 0
 recycled (Recycled level next) = Recycled level next
 recycled Reused = Reused
 recycled (Spare blank) = Spare blank
-
--- how many blocks are Recycled
-abbrev pub recycled_count : BookValue → ℕ
-recycled_count v = count_by is_recycled v.states
 
 -- a run of the rule: it is done where enough blocks are Recycled or none is due, and else the lowest due block becomes Recycled
 pub data Recycles (few : ℕ) : BookValue → BookValue → Type 0 where

@@ -5,27 +5,6 @@ ghost use Rattle.reuse_pool.specs.Recycling.{IsDue, Recycles, recycled, recycled
 
 use block_state::{Book, State};
 
-/// How many blocks are Recycled.
-fn recycled_blocks(book: &Book) -> u32
-    ensures { result ≡ recycled_count book.now }
-{
-    let mut count = 0;
-    for block in 0..book.blocks() {
-        if let State::Recycled { .. } = book.state_of(block) {
-            count += 1;
-        }
-    }
-    count
-}
-
-/// Whether a block is Used and has no live record, and blocks have units.
-fn is_due(book: &Book, block: u32) -> bool
-    requires { block < length book.now.states }
-    ensures { IsTrue result ↔ IsDue book.now block }
-{
-    matches!(book.state_of(block), State::Used { .. }) && book.live(block) == 0 && book.units() > 0
-}
-
 /// Lets a due block offer its units in the next slot.
 fn recycle(book: &mut Book, block: u32)
     requires block { block < length book.old.states }
@@ -45,33 +24,19 @@ fn recycle(book: &mut Book, block: u32)
     );
 }
 
-/// Whether some closed block has no live record. Where none has, none is due, and no block has to be looked at.
-fn some_closed_is_empty(book: &Book) -> bool
-    ensures { result ≡ false → (b : ℕ) → IsDue book.now b → ⊥ }
-{
-    match book.victim() {
-        Some(victim) => book.live(victim) == 0,
-        None => false,
-    }
-}
-
 /// Lets due blocks offer their units, the lowest block first, while fewer than `reuse_max` blocks do.
 pub fn recycle_due(book: &mut Book, reuse_max: u32)
     ensures recycles { Recycles reuse_max book.old book.new }
     ensures settled { (b : ℕ) → IsDue book.new b → reuse_max ≤ recycled_count book.new }
 {
-    if !some_closed_is_empty(book) {
+    if book.units() == 0 {
         return;
     }
-    let mut count = recycled_blocks(book);
-    for block in 0..book.blocks() {
-        if count >= reuse_max {
+    for _ in book.recycled_count()..reuse_max {
+        let Some(block) = book.lowest_empty_used() else {
             return;
-        }
-        if is_due(book, block) {
-            recycle(book, block);
-            count += 1;
-        }
+        };
+        recycle(book, block);
     }
 }
 

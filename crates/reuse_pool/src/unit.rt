@@ -22,16 +22,15 @@ pub fn offer(book: &Book) -> Option<ReuseUnit>
     ensures found { IfSome result (IsOffer book.now) }
     ensures none { IfNone result (NoneRecycledBelow book.now (length book.now.states)) }
 {
-    for block in 0..book.blocks() {
-        if let State::Recycled { level, next } = book.state_of(block) {
-            return Some(ReuseUnit {
-                block,
-                number: next,
-                slot: level,
-            });
-        }
-    }
-    None
+    let block = book.lowest_recycled()?;
+    let State::Recycled { level, next } = book.state_of(block) else {
+        unreachable!();
+    };
+    Some(ReuseUnit {
+        block,
+        number: next,
+        slot: level,
+    })
 }
 
 /// Goes on to the next unit of the offer's block. After the last one the block is Reused in its last slot, and else Used.

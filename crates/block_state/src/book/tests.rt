@@ -1,4 +1,4 @@
-//! The worked row of victims, and a long run against plain lists.
+//! The worked row of victims, the lowest blocks of the kinds, and a long run against plain lists.
 ghost use Rattle.std.specs.Prelude.{◌≡◌, ◌<◌, length, IsTrue};
 ghost use Rattle.block_state.specs.State.{is_spare, InRange};
 ghost use Rattle.block_state.specs.Book.{HasOneSpare, state_at};
@@ -23,6 +23,31 @@ fn the_oldest_of_the_fewest_is_the_victim(rt: HostRuntime) -> Result<(), Fail> {
     book.zero_live(1);
     assert_eq!(rt; book.victim(), Some(1));
     assert_eq!(rt; book.idle_victim(1), Some(0));
+    Ok(())
+}
+
+// 70 blocks, so that a set has two words that are not 0.
+#[test]
+fn the_lowest_block_of_each_kind_is_found(rt: HostRuntime) -> Result<(), Fail> {
+    let mut book = Book::new(rt.alloc(), 70, 2, 2, 2)?;
+    assert_eq!(rt; book.lowest_clean(), Some(0));
+    assert_eq!(rt; book.lowest_recycled(), None);
+    assert_eq!(rt; book.lowest_empty_used(), None);
+    book.add_live(1);
+    book.set_state(0, State::Reused);
+    book.set_state(1, State::Used { level: 0 });
+    book.set_state(69, State::Used { level: 0 });
+    assert_eq!(rt; book.lowest_clean(), Some(2));
+    assert_eq!(rt; book.lowest_empty_used(), Some(69));
+    book.drop_live(1);
+    assert_eq!(rt; book.lowest_empty_used(), Some(1));
+    book.set_state(69, State::Recycled { level: 1, next: 0 });
+    book.set_state(64, State::Recycled { level: 1, next: 1 });
+    assert_eq!(rt; book.lowest_recycled(), Some(64));
+    assert_eq!(rt; book.recycled_count(), 2);
+    book.set_state(64, State::Reused);
+    assert_eq!(rt; book.lowest_recycled(), Some(69));
+    assert_eq!(rt; book.recycled_count(), 1);
     Ok(())
 }
 
@@ -139,6 +164,26 @@ impl Plain {
         }
         least
     }
+
+    fn lowest_clean(&self) -> Option<u32> {
+        (0..8).find(|&block| self.state_of(block) == State::Clean)
+    }
+
+    fn lowest_recycled(&self) -> Option<u32> {
+        (0..8).find(|&block| matches!(self.state_of(block), State::Recycled { .. }))
+    }
+
+    fn lowest_empty_used(&self) -> Option<u32> {
+        (0..8).find(|&block| matches!(self.state_of(block), State::Used { .. })
+            && self.live(block) == 0)
+    }
+
+    fn recycled_count(&self) -> usize {
+        self.states
+            .iter()
+            .filter(|state| matches!(state, State::Recycled { .. }))
+            .count()
+    }
 }
 
 /// A state for 4 pages, 2 units and 3 generations.
@@ -211,6 +256,10 @@ fn ten_thousand_calls_agree_with_plain_lists(rt: HostRuntime) -> Result<(), Fail
         assert_eq!(rt; book.live(block), plain.live(block));
         assert_eq!(rt; book.victim(), plain.least(0, u32::MAX));
         assert_eq!(rt; book.idle_victim(pick % 16), plain.least(1, pick % 16));
+        assert_eq!(rt; book.lowest_clean(), plain.lowest_clean());
+        assert_eq!(rt; book.lowest_recycled(), plain.lowest_recycled());
+        assert_eq!(rt; book.lowest_empty_used(), plain.lowest_empty_used());
+        assert_eq!(rt; book.recycled_count() as usize, plain.recycled_count());
     }
     Ok(())
 }

@@ -1,45 +1,32 @@
--- One pass makes the steps of a run: a block that was passed over or recycled is not due afterwards.
-use Rattle.std.proofs.Common.{◌<◌, inl, inr, ℕ, ◌∙◌, sym, subst, arith, length, length-set}
-use Rattle.std.proofs.lemmas.Bool.{cases_eq, false≢true}
+-- Each turn makes a step of a run: the lowest Used block with no live record is the lowest due one.
+use Rattle.std.proofs.Common.{arith}
 use Rattle.reuse_pool.specs.Recycling.{IsDue, done, step}
-use Rattle.reuse_pool.proofs.Steps.{recycled_count-after, none_due-after, due_within}
+use Rattle.reuse_pool.proofs.Steps.{recycled_count-after, due_within}
 use Rattle.reuse_pool.proofs.recycling.recycle_due.Goals as goal
-use Rattle.reuse_pool.proofs.recycling.recycle_due.Goals.{then-is_due, else-is_due}
 
-pub returns-then-count-reuse_max-clause-recycles : goal.returns-then-count-reuse_max-clause-recycles
-returns-then-count-reuse_max-clause-recycles c =
-    let i = c.loop-block.invariant in
-    i.rest c.loop-block.book (done c.loop-block.book (λ b due. omega (arith, i.counted)))
+pub returns-then-units-eq0-clause-recycles : goal.returns-then-units-eq0-clause-recycles
+returns-then-units-eq0-clause-recycles c = done c.args.book.now (λ b due. absurd (omega (arith, due.2)))
 
-pub loop-block-preserved : goal.loop-block-preserved
-loop-block-preserved c = elim c.if-is_due.branch [
-  | then-is_due w ↦
-      let i = c.loop-block.invariant in
-      let due = c.is_due.ensures.0 w.if-is_due.true in
-      let within : c.loop-block.block < length c.loop-block.book.states = omega (arith, i.blocks) in
-      rw (w.book-is, w.count-is, w.recycle.ensures) (record {
-        counted = omega (arith, i.counted, recycled_count-after c.loop-block.book c.loop-block.block within due);
-        none_due = none_due-after c.loop-block.book c.loop-block.block within due i.none_due;
-        blocks = length-set c.loop-block.book.states c.loop-block.block _ ∙ i.blocks;
-        rest = λ x more. i.rest x (step c.loop-block.book x c.loop-block.block (omega (arith, i.counted)) due i.none_due more);
-      })
-  | else-is_due w ↦
-      let i = c.loop-block.invariant in
-      rw (w.book-is, w.count-is) (record {
-        counted = i.counted;
-        none_due = λ b below due. elim (cases_eq b c.loop-block.block) [
-          | inl same ↦ false≢true (sym w.if-is_due.false ∙ c.is_due.ensures.1 (subst (λ (d : ℕ). IsDue c.loop-block.book d) same due))
-          | inr other ↦ i.none_due b (omega arith) due
-        ];
-        blocks = i.blocks;
-        rest = i.rest;
-      })
-]
+pub loop-init : goal.loop-init
+loop-init c = record { counted = c.recycled_count-counter.ensures; units = omega arith; rest = λ w run. run }
+
+pub returns-in_default-clause-recycles : goal.returns-in_default-clause-recycles
+returns-in_default-clause-recycles c =
+    let none = c.in_default.ensures.none in
+    c.loop.invariant.rest c.loop.book (done c.loop.book (λ b due. absurd (none b (due_within c.loop.book b due) (due.0, due.1))))
+
+pub recycle-requires-clause-due : goal.recycle-requires-clause-due
+recycle-requires-clause-due c = (c.in-Some.ensures.found.0.0, c.in-Some.ensures.found.0.1, c.loop.invariant.units)
+
+pub loop-preserved : goal.loop-preserved
+loop-preserved c =
+    let i = c.loop.invariant in
+    let due : IsDue c.loop.book c.in-Some.block = (c.in-Some.ensures.found.0.0, c.in-Some.ensures.found.0.1, i.units) in
+    rw c.recycle.ensures (record {
+      counted = omega (arith, i.counted, recycled_count-after c.loop.book c.in-Some.block (due_within c.loop.book c.in-Some.block due) due);
+      units = i.units;
+      rest = λ w more. i.rest w (step c.loop.book w c.in-Some.block (omega (arith, i.counted)) due (λ b below other. c.in-Some.ensures.found.1 b below (other.0, other.1)) more);
+    })
 
 pub returns-clause-recycles : goal.returns-clause-recycles
-returns-clause-recycles c =
-    let i = c.loop-block.invariant in
-    i.rest c.loop-block.book (done c.loop-block.book (λ b due. absurd (i.none_due b (omega (arith, due_within c.loop-block.book b due, i.blocks)) due)))
-
-pub returns-then-not-some_closed_is_empty-clause-recycles : goal.returns-then-not-some_closed_is_empty-clause-recycles
-returns-then-not-some_closed_is_empty-clause-recycles c = done c.args.book.now (λ b due. absurd (c.some_closed_is_empty.ensures c.if-not-some_closed_is_empty.true b due))
+returns-clause-recycles c = c.loop.invariant.rest c.loop.book (done c.loop.book (λ b due. omega (arith, c.loop.invariant.counted)))
