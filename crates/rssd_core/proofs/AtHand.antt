@@ -19,7 +19,7 @@ use Rattle.page_codec.specs.declared.place.Place.{Place}
 use Rattle.page_codec.specs.Geometry.{Geometry, shape_of}
 use Rattle.page_codec.specs.Puts.{Puts, first_slot}
 use Rattle.page_codec.specs.Records.{header_in, is_copy}
-use Rattle.page_codec.specs.Sectors.{said_by, stored}
+use Rattle.page_codec.specs.Sectors.{said_by, stored, InCells}
 use Rattle.page_codec.specs.TrueBook.{IsTrue, IsTrueState, IsTrueActive, IsNextSeq, entry_of}
 use Rattle.page_codec.proofs.PutCells.{put_cells}
 use Rattle.collector.specs.Effects.{after_record, filled, recorded, former_in, block_in, MayDrop}
@@ -51,12 +51,14 @@ pub record PutsAtHand (g : Geometry) (d : Decoding) (page : ℕ) (h : Header) (r
   pub next : PutsNext g block fill h old.die.cells new.cells
   pub erases : new.erases ≡ old.die.erases
   pub says : next_gate g block fill new.cells ≡ true → said_by g d new.cells (Some (record { place = first_slot (next_page g block fill); header = h })) ≡ row
+  pub in_cells : next_gate g block fill new.cells ≡ true → InCells g d new.cells (next_page g block fill) h row
 
 pub at_hand : {Content : (ℕ → List ℕ) → Type 0} (g : Geometry) (d : Decoding) (page : ℕ) (h : Header) (row : List ℕ) (old : Store) (new : DieState) → IsSized g
     → Puts Content 1 (first_slot page) h old.die new → old.die.shape ≡ shape_of g → Kept old.die new → IsShaped old.die → IsShaped new → IsTrueStore g old → IsPageBranch old.book page
     → old.seq < 2 ^ 62 + 2 ^ 8 → h.seq ≡ old.seq → IsHeader h → h.sector < g.sectors → is_copy h ≡ false
-    → (is_gate_charged (drop g.main_bytes (page_of new page)) 0 ≡ true → said_by g d new.cells (Some (record { place = first_slot page; header = h })) ≡ row) → PutsAtHand g d page h row old new
-at_hand {Content = Content} g d page h row old new sized p shape kept shaped shaped_new t (block, fill, active, at) small drawn header sector single says = record {
+    → (is_gate_charged (drop g.main_bytes (page_of new page)) 0 ≡ true → said_by g d new.cells (Some (record { place = first_slot page; header = h })) ≡ row)
+    → (is_gate_charged (drop g.main_bytes (page_of new page)) 0 ≡ true → InCells g d new.cells page h row) → PutsAtHand g d page h row old new
+at_hand {Content = Content} g d page h row old new sized p shape kept shaped shaped_new t (block, fill, active, at) small drawn header sector single says in_cells = record {
   sized = sized;
   shape = shape;
   kept = kept;
@@ -79,6 +81,7 @@ at_hand {Content = Content} g d page h row old new sized p shape kept shaped sha
     only = λ q apart. p'.others q (elim (cases_lt q (next_page g block fill)) [ inl below ↦ inl below | inr above ↦ inr (omega (arith, apart)) ]);
   };
   says = subst (λ (q : ℕ). is_gate_charged (drop g.main_bytes (page_of new q)) 0 ≡ true → said_by g d new.cells (Some (record { place = first_slot q; header = h })) ≡ row) page_is says;
+  in_cells = subst (λ (q : ℕ). is_gate_charged (drop g.main_bytes (page_of new q)) 0 ≡ true → InCells g d new.cells q h row) page_is in_cells;
   erases = p.erases;
 }
   where
@@ -168,6 +171,7 @@ module _ (g : Geometry) (d : Decoding) (page : ℕ) (h : Header) (row : List ℕ
       live = (wins_from_gate g p.block p.fill h old.die.cells new.cells p.next charged).live ∙ ap (λ (q : ℕ). Some (record { place = first_slot q; header = h })) (sym p.page_is);
       others = (wins_from_gate g p.block p.fill h old.die.cells new.cells p.next charged).others;
       rows = rows_charged charged;
+      cells = subst (λ (q : ℕ). InCells g d new.cells q h row) (sym p.page_is) (p.in_cells charged);
       book = effect_book entry at;
       seq = refl;
       tables = subst (λ (book : BookValue). IsTrue g new.cells book (slice_set old.table h.sector (Some entry)) (old.seq + 1)) (sym (effect_book entry at))

@@ -26,6 +26,7 @@ move_by_rule d old new t m = record {
   of_sector = refl;
   live = m.live;
   others = m.others;
+  cells = m.cells;
   rows = m.rows;
   book = m.book;
   seq = m.seq;

@@ -16,13 +16,14 @@ use Rattle.rssd_core.specs.Rules.{next_page, offer_of}
 use Rattle.rssd_core.specs.BookChanges.{Change, Passes, Offers, Leads, EachOnce, is_pass, is_offer}
 use Rattle.rssd_core.specs.Calls.{calls_before, collection_reads, copies_due, named_page, offer_reads}
 use Rattle.rssd_core.specs.Erases.{erase_due, Erased, ErasedOrFailed}
+use Rattle.rssd_core.specs.Given.{InPart}
 use Rattle.rssd_core.proofs.ErasesLaws.{erased_after, failed_after}
 use Rattle.rssd_core.specs.DeviceValue.{Numbers}
 use Rattle.rssd_core.specs.Moves.{sealed_records}
 use Rattle.rssd_core.specs.Outcomes.{WriteFault}
 use Rattle.rssd_core.specs.Steps.{Opened, OpenedAfter, OpenReadFailed, OpenChangeFailed, OverDeclined, OverReadFailed, OverChangeFailed, passing}
 use Rattle.rssd_core.specs.Within.{Went, IsCollect}
-use Rattle.rssd_core.specs.Writes.{OfferCarries, OfferDeclines, CanCarry}
+use Rattle.rssd_core.specs.Writes.{OfferCarries, OfferDeclines, CanCarry, page_of_unit}
 use Rattle.rssd_core.proofs.Chained.{leads_append, leads_one, leads_none, within_trans, read_failed_no_cut, count_by-append}
 use Rattle.rssd_core.proofs.PassedBook.{next_same, calls_same, due_same, copies_same, sealed_same}
 use Rattle.rssd_core.proofs.Rules.{offer_is}
@@ -171,6 +172,7 @@ over_read_failed d sector unit bytes old new book first second declined moved fr
     rows = ap (stored d.geometry d.meaning.decoding) f.cells.cells;
     running = refl;
   });
+  over = λ carries. f.cells;
   erased = record {
     over = λ carries. f.cells.erases;
     clean = λ cannot. inr (f.cells.erases, inl (read_failed_within 0 (offer_reads d.geometry (offer_of old.book)) (omega arith) (offer_reads_are d unit old offer) f.failed));
@@ -204,6 +206,7 @@ over_change_failed d sector unit bytes old new first second declined moved fresh
     rows = λ sound. f.rows;
     stopped = refl;
   });
+  over = λ _ other is. in_part other (same_Some unit other (sym (offer_is old.book unit offer) ∙ is));
   erased = record { over = λ _. f.erases; clean = λ cannot. absurd (cannot carries) };
   book = record {
     changes = [];
@@ -220,3 +223,6 @@ over_change_failed d sector unit bytes old new first second declined moved fresh
   where
     carries : OfferCarries d (view_at old first second declined moved) bytes
     carries = (unit, offer_is old.book unit offer, (f.cells, f.above, f.carries))
+
+    in_part : (other : ReuseUnit) → unit ≡ other → InPart d.geometry d.meaning.decoding (page_of_unit d other) bytes old.die.cells new.die.cells
+    in_part other same = subst (λ (u : ReuseUnit). InPart d.geometry d.meaning.decoding (page_of_unit d u) bytes old.die.cells new.die.cells) same f.part

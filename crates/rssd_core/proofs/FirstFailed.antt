@@ -42,6 +42,7 @@ put_failed d sector page rise kind passed before bytes old mid new first second 
     rows = λ sound. elim f.rows [ inl same ↦ inl (same ∙ o.rows) | inr done ↦ inr (done ∙ ap (λ (rows : List (List ℕ)). slice_set rows sector bytes) o.rows) ];
     stopped = refl;
   });
+  over = λ carries. absurd (cannot carries);
   erased = record { over = λ carries. absurd (cannot carries); clean = λ _. inl (erased_then (erase_due old.book (next_page old.book)) old.die mid.die new.die o.erased f.erases) };
   book = record {
     changes = o.changes;
@@ -81,6 +82,7 @@ open_failed d sector passed before bytes old new first second declined moved fre
     rows = λ sound. inl (f.rows sound);
     stopped = refl;
   });
+  over = λ carries. absurd (cannot carries);
   erased = record { over = λ carries. absurd (cannot carries); clean = λ _. failed_within (erase_due old.book (next_page old.book)) before (offer_reads d.geometry (offer_of old.book)) old.die new.die few_before f.erased };
   book = record {
     changes = f.changes;
@@ -122,6 +124,7 @@ open_read_failed d sector passed before bytes old new book first second declined
     rows = f.rows;
     running = refl;
   });
+  over = λ carries. absurd (cannot carries);
   erased = record { over = λ carries. absurd (cannot carries); clean = λ _. inl f.erased };
   book = record {
     changes = f.changes ++ (Offers ∷ []);

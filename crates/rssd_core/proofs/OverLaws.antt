@@ -23,8 +23,8 @@ use Rattle.reuse_pool.specs.declared.unit.ReuseUnit.{ReuseUnit}
 use Rattle.reuse_pool.specs.Offer.{IsOffer, passed}
 use Rattle.page_codec.specs.declared.place.Place.{Place}
 use Rattle.page_codec.specs.Geometry.{Geometry, main_at, unit_at, unit_page}
-use Rattle.page_codec.specs.Puts.{Puts, SecondCarries, is_gated}
-use Rattle.page_codec.specs.Units.{place_of as slot_at}
+use Rattle.page_codec.specs.Puts.{Puts, SecondGives, is_gated}
+use Rattle.page_codec.specs.Units.{place_of as slot_at, unit_main}
 use Rattle.page_codec.specs.Sectors.{said_by, stored, says_zeros, zero_sector}
 use Rattle.page_codec.specs.Sizes.{Sizes, Serves, ServesScheme}
 use Rattle.page_codec.specs.Sound.{live_count}
@@ -35,6 +35,7 @@ use Rattle.collector.specs.Effects.{after_record, filled, recorded, block_in, Ma
 use Rattle.collector.specs.Store.{Store, store, geometry_of, Holds, IsTrueStore}
 use Rattle.collector.proofs.Books.{spare_within}
 use Rattle.collector.proofs.Fresh.{PutsRecord, put_holds, free_after}
+use Rattle.rssd_core.specs.Given.{unit_by, InPart}
 use Rattle.rssd_core.specs.Steps.{IsSized, PutOver, OverDeclined, OverChangeFailed, former_block, place_in, passing}
 use Rattle.rssd_core.proofs.AtHand.{fresh_seq}
 use Rattle.rssd_core.proofs.Passing.{offered_state, WritesOver, second_true, still_offered, pass_true, over_room, former_drops}
@@ -42,19 +43,28 @@ use Rattle.rssd_core.proofs.SecondWrite.{PutsOver, over_gate, unit_below, block_
 use Rattle.rssd_core.proofs.Served.{shape_is}
 
 -- a later write says the sector that was written
-second_says : (g : Geometry) (meaning : Meaning) (place : Place) (h : Header) (sector : List ℕ) (old new : DieState) → Puts (SecondCarries meaning place.page sector) meaning.span place h old new
+second_says : (g : Geometry) (meaning : Meaning) (place : Place) (h : Header) (before sector : List ℕ) (old new : DieState)
+    → Puts (SecondGives meaning place.page before sector) meaning.span place h old new
     → is_gated new place ≡ true → meaning.page_bytes ≡ g.main_bytes → meaning.span ≡ g.span → Decodes meaning → IsSector meaning sector → says_zeros h ≡ false → (place.slot == 0) ≡ false
     → said_by g meaning.decoding new.cells (Some (record { place = place; header = h })) ≡ sector
-second_says g meaning place h sector old new p gated bytes spans decodes is kind later =
+second_says g meaning place h before sector old new p gated bytes spans decodes is kind later =
     ap (λ (t : Bool). if t then zero_sector g else (if place.slot == 0 then meaning.decoding.first (main_at g new.cells place.page) else meaning.decoding.second (unit_at g new.cells place.page))) kind
     ∙ (ap (λ (t : Bool). if t then meaning.decoding.first (main_at g new.cells place.page) else meaning.decoding.second (unit_at g new.cells place.page)) later
     ∙ decodes.second (unit_at g new.cells place.page) sector is
-    ((λ i. meaning.decoding.second_carries (flat_map (λ q. take (sym bytes i) (p.whole gated q i)) (range_with_len place.page (sym spans i))) sector) ∙ p.content))
+    ((λ i. meaning.decoding.second_carries (flat_map (λ q. take (sym bytes i) (p.whole gated q i)) (range_with_len place.page (sym spans i))) sector) ∙ p.content.carries))
 
-unit_carries : (g : Geometry) (meaning : Meaning) (place : Place) (h : Header) (sector : List ℕ) (old new : DieState) → Puts (SecondCarries meaning place.page sector) meaning.span place h old new
+unit_carries : (g : Geometry) (meaning : Meaning) (place : Place) (h : Header) (before sector : List ℕ) (old new : DieState)
+    → Puts (SecondGives meaning place.page before sector) meaning.span place h old new
     → is_gated new place ≡ true → meaning.page_bytes ≡ g.main_bytes → meaning.span ≡ g.span → meaning.decoding.second_carries (unit_at g new.cells place.page) sector ≡ true
-unit_carries g meaning place h sector old new p gated bytes spans =
-    (λ i. meaning.decoding.second_carries (flat_map (λ q. take (sym bytes i) (p.whole gated q i)) (range_with_len place.page (sym spans i))) sector) ∙ p.content
+unit_carries g meaning place h before sector old new p gated bytes spans =
+    (λ i. meaning.decoding.second_carries (flat_map (λ q. take (sym bytes i) (p.whole gated q i)) (range_with_len place.page (sym spans i))) sector) ∙ p.content.carries
+
+-- and its cells are those that the write gives over the cells before it
+unit_gives : (g : Geometry) (meaning : Meaning) (place : Place) (h : Header) (before sector : List ℕ) (old new : DieState)
+    → Puts (SecondGives meaning place.page before sector) meaning.span place h old new
+    → is_gated new place ≡ true → meaning.page_bytes ≡ g.main_bytes → meaning.span ≡ g.span → meaning.decoding.second_gives before sector (unit_at g new.cells place.page) ≡ true
+unit_gives g meaning place h before sector old new p gated bytes spans =
+    (λ i. meaning.decoding.second_gives before sector (flat_map (λ q. take (sym bytes i) (p.whole gated q i)) (range_with_len place.page (sym spans i)))) ∙ p.content.gives
 
 -- pages above pages make a unit above a unit
 pages_above : (m : ℕ) (new old : ℕ → List ℕ) (a n : ℕ) → ((page : ℕ) → IsAbove (new page) (old page)) → IsAbove (flat_map (λ q. take m (new q)) (range_with_len a n)) (flat_map (λ q. take m (old q)) (range_with_len a n))
@@ -95,7 +105,7 @@ pub record IsOver (meaning : Meaning) (sizes : Sizes) (old : Store) (new : DieSt
 
 module _ (meaning : Meaning) (sizes : Sizes) (old : Store) (new : DieState) (unit : ReuseUnit) (page sector : ℕ) (o : IsOver meaning sizes old new unit page sector) (bytes : List ℕ)
     (kept : Kept old.die new) (shaped : IsShaped old.die) (shaped_new : IsShaped new)
-    (p : Puts (SecondCarries meaning page bytes) meaning.span (slot_at page unit.slot) (record { sector = sector; seq = old.seq; kind = 1 }) old.die new) where
+    (p : Puts (SecondGives meaning page (unit_main old.die meaning.span page) bytes) meaning.span (slot_at page unit.slot) (record { sector = sector; seq = old.seq; kind = 1 }) old.die new) where
   abbrev g : Geometry
   g = geometry_of old.die.shape meaning (length old.table)
 
@@ -105,8 +115,12 @@ module _ (meaning : Meaning) (sizes : Sizes) (old : Store) (new : DieState) (uni
   offered : (unit.block < g.blocks) × IsTrueRecycled g old.die.cells unit.block unit.slot unit.number
   offered = offered_state g old.die.cells old.book old.table old.seq unit o.tables o.offer
 
-  p' : Puts (SecondCarries meaning (unit_page g unit.block unit.number) bytes) meaning.span (place_in g unit) h old.die new
-  p' = subst (λ (q : ℕ). Puts (SecondCarries meaning q bytes) meaning.span (slot_at q unit.slot) h old.die new) o.page_is p
+  -- the main bytes of the unit before the put
+  abbrev before : List ℕ
+  before = unit_at g old.die.cells (unit_page g unit.block unit.number)
+
+  p' : Puts (SecondGives meaning (unit_page g unit.block unit.number) before bytes) meaning.span (place_in g unit) h old.die new
+  p' = subst (λ (q : ℕ). Puts (SecondGives meaning q (unit_main old.die meaning.span q) bytes) meaning.span (slot_at q unit.slot) h old.die new) o.page_is p
 
   pub puts_over : PutsOver g unit h old.die.cells new.cells
   puts_over = record {
@@ -141,10 +155,26 @@ module _ (meaning : Meaning) (sizes : Sizes) (old : Store) (new : DieState) (uni
   gate_is : over_gate g unit new.cells ≡ true → is_gated new (place_in g unit) ≡ true
   gate_is e = ap (λ (s : Shape). is_gate_charged (drop s.main_bytes (page_of new (unit_page g unit.block unit.number))) unit.slot) kept.shape ∙ e
 
+  -- the unit, whether the write was finished or not
+  in_part : InPart g meaning.decoding (unit_page g unit.block unit.number) bytes old.die.cells new.cells
+  in_part = record {
+    main = λ q. take g.main_bytes (p'.done q);
+    carries = (λ i. meaning.decoding.second_carries (unit_by g (unit_page g unit.block unit.number) (λ q. take (sym bytes_are i) (p'.done q))) bytes) ∙ p'.content.carries;
+    gives = (λ i. meaning.decoding.second_gives before bytes
+        (unit_by g (unit_page g unit.block unit.number) (λ q. take (sym bytes_are i) (p'.done q)))) ∙ p'.content.gives;
+    above = pages_above g.main_bytes (page_at new.cells) (page_at old.die.cells) (unit_page g unit.block unit.number) g.span p'.above;
+    below = pages_above g.main_bytes p'.done (page_at new.cells) (unit_page g unit.block unit.number) g.span p'.below;
+    order = elim p'.order [
+      | inl still ↦ inl still
+      | inr whole ↦ inr (λ further behind within. ap (take g.main_bytes) (whole further behind within))
+    ];
+  }
+
   module _ (decodes : Decodes meaning) (is : IsSector meaning bytes) where
     rows_charged : over_gate g unit new.cells ≡ true → stored g meaning.decoding new.cells ≡ slice_set (stored g meaning.decoding old.die.cells) sector bytes
     rows_charged charged = rows_from_gate g unit h old.die.cells new.cells puts_over meaning.decoding bytes charged
-        (second_says g meaning (place_in g unit) h bytes old.die new p' (gate_is charged) bytes_are refl decodes is refl (ne_eqb unit.slot 0 (λ e. omega (arith, offered.1.low))))
+        (second_says g meaning (place_in g unit) h before bytes old.die new p' (gate_is charged) bytes_are refl decodes is refl
+        (ne_eqb unit.slot 0 (λ e. omega (arith, offered.1.low))))
 
     pub over_failed : ChangeFailed (meaning.span + 1) meaning.span old.die new → OverChangeFailed g meaning.decoding unit h bytes old (store new old.table old.book (old.seq + 1))
     over_failed failed = record {
@@ -153,9 +183,10 @@ module _ (meaning : Meaning) (sizes : Sizes) (old : Store) (new : DieState) (uni
         | inl charged ↦ inr (rows_charged charged)
         | inr open' ↦ inl (stored_before_gate g unit h old.die.cells new.cells puts_over meaning.decoding open')
       ];
-      cells = flat_map (λ q. take g.main_bytes (p'.done q)) (range_with_len (unit_page g unit.block unit.number) g.span);
-      above = pages_above g.main_bytes p'.done (page_at old.die.cells) (unit_page g unit.block unit.number) g.span (λ q. above_trans (p'.done q) (page_of new q) (page_of old.die q) (p'.below q) (p'.above q));
-      carries = (λ i. meaning.decoding.second_carries (flat_map (λ q. take (sym bytes_are i) (p'.done q)) (range_with_len (unit_page g unit.block unit.number) g.span)) bytes) ∙ p'.content;
+      cells = unit_by g (unit_page g unit.block unit.number) in_part.main;
+      above = above_trans _ _ _ in_part.below in_part.above;
+      carries = in_part.carries;
+      part = in_part;
       erases = p.erases;
       failed = failed;
     }
@@ -195,7 +226,8 @@ module _ (meaning : Meaning) (sizes : Sizes) (old : Store) (new : DieState) (uni
         others = (wins_from_gate g unit h old.die.cells new.cells puts_over charged).others;
         rows = rows_charged charged;
         above = pages_above g.main_bytes (page_at new.cells) (page_at old.die.cells) (unit_page g unit.block unit.number) g.span p'.above;
-        carries = unit_carries g meaning (place_in g unit) h bytes old.die new p' (gate_is charged) bytes_are refl;
+        carries = unit_carries g meaning (place_in g unit) h before bytes old.die new p' (gate_is charged) bytes_are refl;
+        gives = unit_gives g meaning (place_in g unit) h before bytes old.die new p' (gate_is charged) bytes_are refl;
         book = ap (λ (v : BookValue). passing v unit) effect_is;
         seq = refl;
         tables = subst (λ (e : Entry). IsTrue g new.cells (passing (after_record old.book (block_in old.book entry) (former_block old.book old.table sector)) unit) (slice_set old.table sector (Some e)) (old.seq + 1))

@@ -1,14 +1,16 @@
 -- The die, the scheme and the buffers agree.
 use Rattle.std.specs.Prelude.{OnOk, OnErr}
-use Rattle.std.proofs.Common.{◌≡◌, ℕ, ◌+◌, ◌*◌, ◌^◌, ◌<◌, ◌≤◌, true, List, drop, length, Option, Result, Ok, Err, refl, sym, ap, ◌∙◌, subst, arith}
+use Rattle.std.proofs.Common.{◌≡◌, ℕ, ◌+◌, ◌*◌, ◌^◌, ◌<◌, ◌≤◌, true, false, List, take, drop, length, Option, Result, Ok, Err, refl, sym, ap, ◌∙◌, subst, arith}
 use Rattle.std.proofs.Math.Nat.{mul-le-mul}
+use Rattle.std.proofs.lemmas.Bool.{false≢true}
+use Rattle.zero_count.specs.declared.Header.{Header}
 use Rattle.cell_die.specs.declared.shape.Shape.{Shape}
 use Rattle.cell_die.specs.Cells.{page_at, is_blank}
 use Rattle.cell_die.specs.DieState.{DieState, IsShaped, page_of}
 use Rattle.cell_die.specs.Calls.{Kept}
 use Rattle.spare_gate.specs.Slots.{is_gate_charged}
 use Rattle.page_codec.specs.Puts.{Puts, FirstGives, MainBlank, first_slot, is_gated}
-use Rattle.page_codec.specs.Sectors.{zero_sector}
+use Rattle.page_codec.specs.Sectors.{says_zeros, zero_sector, InCells}
 use Rattle.collector.proofs.Rows.{first_says, zeros_say}
 use Rattle.rssd_core.specs.Steps.{IsSized}
 use Rattle.rssd_core.proofs.AtHand.{PutsAtHand, at_hand}
@@ -59,6 +61,21 @@ gate_there old new page same e = ap (λ (s : Shape). is_gate_charged (drop s.mai
 pub gate_here : (old new : DieState) (page : ℕ) → new.shape ≡ old.shape → is_gated new (first_slot page) ≡ true → is_gate_charged (drop old.shape.main_bytes (page_of new page)) 0 ≡ true
 gate_here old new page same e = ap (λ (s : Shape). is_gate_charged (drop s.main_bytes (page_of new page)) 0) (sym same) ∙ e
 
+-- what a put of a sector, and one of zeros, leave in the page's main cells
+first_in_cells : (g : Geometry) (meaning : Meaning) (page : ℕ) (h : Header) (sector : List ℕ) (old new : DieState) → Puts (FirstGives meaning page sector) 1 (first_slot page) h old new
+    → is_gated new (first_slot page) ≡ true → meaning.page_bytes ≡ g.main_bytes → says_zeros h ≡ false → InCells g meaning.decoding new.cells page h sector
+first_in_cells g meaning page h sector old new p gated bytes kind = record {
+  bytes = λ _. (λ i. meaning.decoding.first_gives (take (sym bytes i) (p.whole gated page i)) sector) ∙ p.content;
+  zeros = λ zeros. absurd (false≢true (sym kind ∙ zeros));
+}
+
+zeros_in_cells : (g : Geometry) (meaning : Meaning) (page : ℕ) (h : Header) (sector : List ℕ) (old new : DieState) → Puts (MainBlank g.main_bytes page) 1 (first_slot page) h old new
+    → is_gated new (first_slot page) ≡ true → says_zeros h ≡ true → InCells g meaning.decoding new.cells page h sector
+zeros_in_cells g meaning page h sector old new p gated kind = record {
+  bytes = λ bytes. absurd (false≢true (sym bytes ∙ kind));
+  zeros = λ _. ap (λ (row : List ℕ). is_blank (take g.main_bytes row)) (p.whole gated page) ∙ p.content;
+}
+
 module _ (old new : DieState) (meaning : Meaning) (sizes : Sizes) (table : List (Option Entry)) (book : BookValue) (seq page sector : ℕ)
     (die : Serves sizes old.shape) (scheme : ServesScheme sizes meaning) (sized : IsSized (geometry_of old.shape meaning (length table)))
     (kept : Kept old new) (shaped : IsShaped old) (shaped_new : IsShaped new)
@@ -73,6 +90,8 @@ module _ (old new : DieState) (meaning : Meaning) (sizes : Sizes) (table : List 
       (record { sector = narrow; seq = omega arith; least_kind = omega arith; greatest_kind = omega arith }) within refl
       (λ gated. first_says (geometry_of old.shape meaning (length table)) meaning page (record { sector = sector; seq = seq; kind = 1 }) bytes old new p (gate_there old new page kept.shape gated)
       (scheme.page_bytes ∙ sym die.main_bytes) decodes is refl)
+      (λ gated. first_in_cells (geometry_of old.shape meaning (length table)) meaning page (record { sector = sector; seq = seq; kind = 1 }) bytes old new p (gate_there old new page kept.shape gated)
+      (scheme.page_bytes ∙ sym die.main_bytes) refl)
 
   -- a put of zeros
   pub zeros_at_hand : Puts (MainBlank old.shape.main_bytes page) 1 (first_slot page) (record { sector = sector; seq = seq; kind = 3 }) old new
@@ -82,6 +101,8 @@ module _ (old new : DieState) (meaning : Meaning) (sizes : Sizes) (table : List 
       (shape_is old.shape meaning (length table) sizes die scheme) kept shaped shaped_new tables branch small refl
       (record { sector = narrow; seq = omega arith; least_kind = omega arith; greatest_kind = omega arith }) within refl
       (λ gated. zeros_say (geometry_of old.shape meaning (length table)) meaning.decoding new.cells (first_slot page) (record { sector = sector; seq = seq; kind = 3 }) refl)
+      (λ gated. zeros_in_cells (geometry_of old.shape meaning (length table)) meaning page (record { sector = sector; seq = seq; kind = 3 })
+      (zero_sector (geometry_of old.shape meaning (length table))) old new p (gate_there old new page kept.shape gated) refl)
 
 -- where a call failed, all of this
 pub err_any : {T E P : Type 0} (result : Result T E) → P → OnErr result P

@@ -14,13 +14,14 @@ use Rattle.reuse_pool.specs.Recycling.{Recycles}
 use Rattle.page_codec.specs.Geometry.{Geometry}
 use Rattle.page_codec.specs.Puts.{first_slot}
 use Rattle.page_codec.specs.Records.{header_in}
+use Rattle.page_codec.specs.Sectors.{InCells}
 use Rattle.page_codec.specs.Sound.{IsSound}
 use Rattle.collector.specs.Store.{Store, store, IsTrueStore}
 use Rattle.collector.specs.Store as stores
 use Rattle.rssd_core.specs.declared.device.Placed.TheVariants.{First, Declined}
 use Rattle.rssd_core.specs.Rules.{first_block, next_page, offer_of}
 use Rattle.rssd_core.specs.BookChanges.{Change, Fills, Offers, Leads, EachOnce, OffersLast, passes, is_offer, filled_in, is_take, is_wipe, is_erase, is_copy, is_seal, is_pass}
-use Rattle.rssd_core.specs.Calls.{calls_before, clean_calls, collection_reads}
+use Rattle.rssd_core.specs.Calls.{calls_before, clean_calls, collection_reads, named_page}
 use Rattle.rssd_core.specs.DeviceValue.{Numbers, DeviceView, rows_of}
 use Rattle.rssd_core.specs.Moves.{MovesBook, MovesSeq, WhereCut, sealed_records, ChangesRose}
 use Rattle.rssd_core.specs.Outcomes.{Wrote, WriteAtCut, RisesSealed}
@@ -105,7 +106,7 @@ sealed_offers v changes = sum_by-append _ changes (Offers ∷ []) ∙ plus_none 
 -- what a write to a clean page gives, whether a unit was declined before or not
 pub record WroteClean (d : Numbers) (sector kind : ℕ) (bytes : List ℕ) (passed before : ℕ) (old new : DeviceView) : Type 0 where
   pub rows : rows_of d new ≡ slice_set (rows_of d old) sector bytes
-  pub page : OnCleanPage d old new sector kind
+  pub page : OnCleanPage d old new sector bytes kind
   pub gets : GetsPage old new
   pub calls : Went (clean_calls old.book) (before + collection_reads d.geometry old.die.cells (next_page old.book)) (IsCollect (next_page old.book)) old.die new.die
   pub book : MovesBook d (λ changes. (passes changes ≡ passed) × EachOnce changes × OffersLast changes) (RisesSealed old.book) (WhereCut (WriteAtCut d old bytes) old new) old new
@@ -117,7 +118,11 @@ pub wrote_clean : (d : Numbers) (sector page rise kind passed before : ℕ) (byt
     → WroteClean d sector kind bytes passed before (view_at old first second declined moved) (view_at (record new { book = book }) first' second' declined' (count_sum moved rise))
 wrote_clean d sector page rise kind passed before bytes old mid new book first second declined moved first' second' declined' holds o p recycles = record {
   rows = p.rows ∙ ap (λ (rows : List (List ℕ)). slice_set rows sector bytes) o.rows;
-  page = p.live ∙ (λ i. Some (record { place = first_slot (o.named i); header = record { sector = sector; seq = last_drawn i; kind = kind } }));
+  page = record {
+    live = p.live ∙ (λ i. Some (record { place = first_slot (o.named i); header = record { sector = sector; seq = last_drawn i; kind = kind } }));
+    cells = subst (λ (seq : ℕ). InCells d.geometry d.meaning.decoding new.die.cells (named_page old.book (next_page old.book)) (record { sector = sector; seq = seq; kind = kind }) bytes) last_drawn
+        (subst (λ (q : ℕ). InCells d.geometry d.meaning.decoding new.die.cells q (record { sector = sector; seq = mid.seq; kind = kind }) bytes) o.named p.cells);
+  };
   gets = record { drawn = omega (arith, p.seq, o.drawn, o.copied); erased = erased_then (erase_due old.book (next_page old.book)) old.die mid.die new.die o.erased p.erases };
   calls = subst (λ (n : ℕ). Went (clean_calls old.book) n (IsCollect (next_page old.book)) old.die new.die) (plus_none (before + collection_reads d.geometry old.die.cells (next_page old.book))) went;
   book = record {

@@ -79,6 +79,12 @@ wrote_second d sector unit bytes old new book first second declined moved fresh 
     last_drawn : old.seq ≡ new.seq - 1
     last_drawn = omega (arith, p.seq)
 
-    over : (other : ReuseUnit) → unit ≡ other → OverUnit d (view_at old first second declined moved) (view_at (record new { book = book }) first (count_sum second 1) declined moved) sector other
-    over other same = subst (λ (u : ReuseUnit). OverUnit d (view_at old first second declined moved) (view_at (record new { book = book }) first (count_sum second 1) declined moved) sector u) same
-        (record { live = p.live ∙ (λ i. Some (record { place = slot_of_unit d unit; header = record { sector = sector; seq = last_drawn i; kind = 1 } })); above = p.above })
+    over : (other : ReuseUnit) → unit ≡ other → OverUnit d (view_at old first second declined moved) (view_at (record new { book = book }) first (count_sum second 1) declined moved) sector bytes other
+    over other same = subst
+        (λ (u : ReuseUnit). OverUnit d (view_at old first second declined moved) (view_at (record new { book = book }) first (count_sum second 1) declined moved) sector bytes u) same
+        (record {
+          live = p.live ∙ (λ i. Some (record { place = slot_of_unit d unit; header = record { sector = sector; seq = last_drawn i; kind = 1 } }));
+          above = p.above;
+          carries = p.carries;
+          gives = p.gives;
+        })

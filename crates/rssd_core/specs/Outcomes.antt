@@ -16,7 +16,7 @@ use Rattle.rssd_core.specs.Erases.{erase_due, ErasedOrFailed}
 use Rattle.rssd_core.specs.Calls.{move_reads}
 use Rattle.rssd_core.specs.DeviceValue.{Numbers, DeviceView, DeviceValue, rows_of}
 use Rattle.rssd_core.specs.Moves.{MovesBook, MovesSeq, WhereCut, CollectAtCut, sealed_records}
-use Rattle.rssd_core.specs.Writes.{OfferCarries, WentTo, WriteDraws, WriteErased, TrimLeaves}
+use Rattle.rssd_core.specs.Writes.{OfferCarries, WentTo, WriteDraws, WriteErased, FailsOver, TrimLeaves}
 use Rattle.rssd_core.specs.IdleRule.{IdleMoves, IdleUnfinished, NoMoveLeft, moment_of}
 use Rattle.rssd_core.specs.Within.{Went, WithinWrite, WithinTrim, WithinIdle, Finished, IsCollect, holds_bytes, record_of, write_calls, write_reads, WriteBounded, trim_calls, trim_reads}
 
@@ -114,6 +114,7 @@ WriteFaultMay stopped changes = (passes changes ≤ 1) × EachOnce changes × Of
 pub record WriteFault (d : Numbers) (sector : ℕ) (bytes : List ℕ) (old new : DeviceValue) : Type 0 where
   pub fresh : old.view.seq < 2 ^ 62
   pub fault : Faulted d (WithinWrite d old.view bytes) (slice_set (rows_of d old.view) sector bytes) old new
+  pub over : OfferCarries d old.view bytes → FailsOver d old.view bytes new.stopped new.view
   pub erased : WriteErased d old.view bytes new.view
   pub book : MovesBook d (WriteFaultMay new.stopped) (RisesSealed old.view.book) (WhereCut (WriteAtCut d old.view bytes) old.view new.view) old.view new.view
   pub seq : MovesSeq d old.view new.view

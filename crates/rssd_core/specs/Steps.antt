@@ -23,6 +23,7 @@ use Rattle.rssd_core.specs.BookChanges.{Change, Leads, EachOnce, passes, is_offe
 use Rattle.std.specs.List.{count_by}
 use Rattle.rssd_core.specs.Calls.{calls_before, collection_reads, copies_due, named_page}
 use Rattle.rssd_core.specs.Erases.{erase_due, Erased, ErasedOrFailed}
+use Rattle.rssd_core.specs.Given.{InPart}
 use Rattle.rssd_core.specs.Moves.{sealed_records}
 use Rattle.rssd_core.specs.Within.{Went, IsCollect}
 use Rattle.page_codec.specs.Geometry.{Geometry, units, unit_page, unit_at}
@@ -166,13 +167,15 @@ pub record OverReadFailed (g : Geometry) (old new : Store) : Type 0 where
   pub cells : SameCells old.die new.die
   pub failed : ReadFailed 0 g.span old.die new.die
 
--- A change call failed: some cells above the unit's carry the sector, the row is as before or set, and one seq was drawn.
+-- A change call failed: some cells above the unit's carry the sector, and the unit has part of those that the write gives. The row
+-- is as before or set, and one seq was drawn.
 pub record OverChangeFailed (g : Geometry) (d : Decoding) (unit : ReuseUnit) (h : Header) (row : List ℕ) (old new : Store) : Type 0 where
   pub same : new ≡ record old { die = new.die; seq = old.seq + 1 }
   pub rows : SameRows g d old new ⊎ SetsRow g d h.sector row old new
   pub cells : List ℕ
   pub above : IsAbove cells (bytes_in g old unit)
   pub carries : d.second_carries cells row ≡ true
+  pub part : InPart g d (unit_page g unit.block unit.number) row old.die.cells new.die.cells
   pub erases : new.die.erases ≡ old.die.erases
   pub failed : ChangeFailed (g.span + 1) g.span old.die new.die
 

@@ -1,6 +1,7 @@
 -- Where a write goes.
 use Rattle.std.specs.Prelude.{◌≡◌, ℕ, ◌+◌, ◌-◌, Bool, true, false, List, Some, None}
 use Rattle.cell_die.specs.Cells.{IsAbove}
+use Rattle.cell_die.specs.Changes.{SameCells}
 use Rattle.reuse_pool.specs.declared.unit.ReuseUnit.{ReuseUnit}
 use Rattle.page_codec.specs.declared.place.Place.{Place}
 use Rattle.page_codec.specs.Geometry.{unit_page, unit_at}
@@ -11,6 +12,7 @@ use Rattle.rssd_core.specs.declared.device.Placed.TheVariants.{First, Second, De
 use Rattle.rssd_core.specs.Rules.{next_page, offer_of}
 use Rattle.rssd_core.specs.Calls.{copies_due, named_page, offer_reads}
 use Rattle.rssd_core.specs.Erases.{erase_due, Erased, ErasedOrFailed}
+use Rattle.rssd_core.specs.Given.{InPart}
 use Rattle.page_codec.specs.Records.{live_record}
 use Rattle.rssd_core.specs.DeviceValue.{Numbers, DeviceView}
 
@@ -78,6 +80,13 @@ WriteDraws old new Declined = GetsPage old new
 pub record WriteErased (d : Numbers) (old : DeviceView) (bytes : List ℕ) (new : DeviceView) : Type 0 where
   pub over : OfferCarries d old bytes → new.die.erases ≡ old.die.erases
   pub clean : (OfferCarries d old bytes → ⊥) → ErasedOrFailed (erase_due old.book (next_page old.book)) (offer_reads d.geometry (offer_of old.book)) old.die new.die
+
+-- What a write whose offer carries the bytes leaves where it failed: no cell is changed where a read failed, and the unit has part
+-- of its new cells where a change call did and stopped the device.
+abbrev pub FailsOver : Numbers → DeviceView → List ℕ → Bool → DeviceView → Type 0
+FailsOver d old bytes false new = SameCells old.die new.die
+FailsOver d old bytes true new = (unit : ReuseUnit) → offer_of old.book ≡ Some unit
+    → InPart d.geometry d.meaning.decoding (page_of_unit d unit) bytes old.die.cells new.die.cells
 
 -- A trim of a sector that holds bytes leaves a record of kind 3 on the page that comes next; any other changes nothing.
 abbrev pub TrimLeaves : Numbers → DeviceView → DeviceView → ℕ → Bool → Type 0
