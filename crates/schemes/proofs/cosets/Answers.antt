@@ -1,6 +1,7 @@
 -- The scheme that was made has the codes that were given.
 use Rattle.std.proofs.Common.{◌∙◌, ap, take, List, ℕ, Result, Ok, Err, IfOk}
 use Rattle.striped.specs.Layouts.{meaning_of}
+use Rattle.striped.specs.Meaning.{Meaning}
 use Rattle.wom_code.specs.Plain.{plain_gives}
 use Rattle.coset_code.specs.Code.{coset_message}
 use Rattle.schemes.specs.Schemes.{coset_meaning, coset_gives}
@@ -12,4 +13,6 @@ if_ok (Err e) P Q p f = tt
 
 pub returns : goal.returns
 unfolding coset_meaning
-returns c = if_ok c.new-2.result _ _ c.new-2.ensures (λ s p. p ∙ ap (λ (table : List ℕ). meaning_of 128 144 288 c.args.sector_bytes 2 (take 128) (plain_gives 128) (coset_message 128 table) (coset_gives table)) c.in_ok-code.ensures)
+returns c =
+    let of_table : List ℕ → Meaning = λ table. meaning_of 128 144 288 c.args.sector_bytes 2 (take 128) (plain_gives 128) (coset_message 128 table) (coset_gives table) in
+    if_ok c.new-2.result _ _ c.new-2.ensures (λ s p. p ∙ ap of_table c.in_ok-code.ensures)
