@@ -1,5 +1,6 @@
 -- The fields of `Book` keep its value over each change: list `k` of `by_live` stays the part of the order with live count `k`.
-use Rattle.std.proofs.Common.{◌≡◌, ℕ, ◌+◌, ◌*◌, ◌<◌, ◌≤◌, inl, inr, Bool, true, false, cond, if◌then◌else◌, IfSome, eqb, Option, Some, None, List, [], ◌∷◌, ◌++◌, length, replicate, get_or, set, refl, sym, ap, ◌∙◌, subst, arith, get_or-set_same, get_or-set_other, length-set}
+use Rattle.std.proofs.Common.{◌≡◌, ℕ, ◌+◌, ◌*◌, ◌<◌, ◌≤◌, inl, inr, Bool, true, false, cond, if◌then◌else◌, IfSome, eqb, Option, Some, None, List, [], ◌∷◌, ◌++◌, length, replicate, get_or, set}
+use Rattle.std.proofs.Common.{refl, sym, ap, ◌∙◌, subst, arith, get_or-set_same, get_or-set_other, length-set}
 use Rattle.std.specs.List.{filter}
 use Rattle.std.proofs.lemmas.Bool.{cases_eq, cases_lt, cases_Bool, eq-eqb, eqb-true, ne_eqb, false≢true}
 use Rattle.std.proofs.lemmas.List.{get_or_past, get_or_default, length-map, length-replicate, get_or-replicate}
@@ -151,9 +152,11 @@ module _ (v : BookValue) (order by_live : Lists) (active : Option ℕ) (kept : I
     parts_relisted false true k = elim (cases_eq (live_at v b) k) [
       | inl same ↦ subst (λ (j : ℕ). list_at (appended by_live.lists (live_at v b) b) j ≡ filter (λ c. eqb (live_at v c) j) (v.order ++ b ∷ [])) same
           (at_appended_same by_live.lists (live_at v b) b (bucket_within (live_at v b) (kept.valid.few_live b)) ∙ ap (λ xs. xs ++ b ∷ []) (kept.parts (live_at v b))
-          ∙ sym (filter-append (λ c. eqb (live_at v c) (live_at v b)) v.order (b ∷ []) ∙ ap (λ ys. filter (λ c. eqb (live_at v c) (live_at v b)) v.order ++ ys) (filter_one (λ c. eqb (live_at v c) (live_at v b)) b (eq-eqb (live_at v b) (live_at v b) refl))))
+          ∙ sym (filter-append (λ c. eqb (live_at v c) (live_at v b)) v.order (b ∷ [])
+          ∙ ap (λ ys. filter (λ c. eqb (live_at v c) (live_at v b)) v.order ++ ys) (filter_one (λ c. eqb (live_at v c) (live_at v b)) b (eq-eqb (live_at v b) (live_at v b) refl))))
       | inr other ↦ at_appended_other by_live.lists (live_at v b) k b (λ e. other (sym e)) ∙ kept.parts k
-          ∙ sym (filter-append (λ c. eqb (live_at v c) k) v.order (b ∷ []) ∙ ap (λ ys. filter (λ c. eqb (live_at v c) k) v.order ++ ys) (filter_none (λ c. eqb (live_at v c) k) b (ne_eqb (live_at v b) k other)) ∙ append-nil _)
+          ∙ sym (filter-append (λ c. eqb (live_at v c) k) v.order (b ∷ [])
+          ∙ ap (λ ys. filter (λ c. eqb (live_at v c) k) v.order ++ ys) (filter_none (λ c. eqb (live_at v c) k) b (ne_eqb (live_at v b) k other)) ∙ append-nil _)
     ]
 
     length-relisted : (w n : Bool) (ls : List (List ℕ)) (k : ℕ) → length (relisted w n ls k b) ≡ length ls
@@ -203,7 +206,8 @@ module _ (v : BookValue) (order by_live : Lists) (active : Option ℕ) (kept : I
       | inr other ↦ at_appended_other (removed by_live.lists b) n k b (λ e. other (sym e))
           ∙ list_at-removed by_live.lists b k ∙ ap (without b) (kept.parts k) ∙ sym (filter_after k v.order)
           ∙ sym (filter-append (λ c. eqb (get_or (set v.live b n) c 0) k) (without b v.order) (b ∷ [])
-          ∙ ap (λ ys. filter (λ c. eqb (get_or (set v.live b n) c 0) k) (without b v.order) ++ ys) (filter_none (λ c. eqb (get_or (set v.live b n) c 0) k) b (ne_eqb _ k (λ e. other (sym count_here ∙ e)))) ∙ append-nil _)
+          ∙ ap (λ ys. filter (λ c. eqb (get_or (set v.live b n) c 0) k) (without b v.order) ++ ys)
+          (filter_none (λ c. eqb (get_or (set v.live b n) c 0) k) b (ne_eqb _ k (λ e. other (sym count_here ∙ e)))) ∙ append-nil _)
     ]
 
     -- a block that is not closed is in no part

@@ -1,5 +1,6 @@
 -- The sets keep the blocks of their kinds over each change, and the lowest block of a set is the lowest of its kind.
-use Rattle.std.proofs.Common.{◌≡◌, ℕ, ◌+◌, ◌<◌, inl, inr, Bool, true, false, cond, eqb, ltb, IfSome, Option, Some, None, List, length, replicate, get_or, set, refl, sym, ap, ◌∙◌, subst, arith, get_or-set_same, get_or-set_other}
+use Rattle.std.proofs.Common.{◌≡◌, ℕ, ◌+◌, ◌<◌, inl, inr, Bool, true, false, cond, eqb, ltb, IfSome, Option, Some, None, List, length, replicate, get_or, set, refl, sym, ap, ◌∙◌, subst, arith}
+use Rattle.std.proofs.Common.{get_or-set_same, get_or-set_other}
 use Rattle.std.proofs.lemmas.Bool.{cases_eq, cases_lt, eq-eqb, eqb-true, ne_eqb, lt-ltb, le-ltb, false≢true}
 use Rattle.std.proofs.lemmas.List.{get_or_past, get_or_default, length-replicate, get_or-replicate, set-get_or}
 use Rattle.std.proofs.lemmas.List.Sums.{sum_by-set}
@@ -60,7 +61,9 @@ module _ (states : List State) (live : List ℕ) (kinds : Kinds) (are : AreKinds
     put_are = record {
       clean_are = followed kinds.clean.words new.clean.words b (is_clean s) (λ c. is_clean (get_or states c Reused)) (λ c. is_clean (get_or (set states b s) c Reused)) put.clean are.clean_are
           (ap is_clean (get_or-set_same states b s Reused within)) (λ c other. ap is_clean (state_there c Reused other));
-      recycled_are = followed kinds.recycled.words new.recycled.words b (is_recycled s) (λ c. is_recycled (get_or states c Clean)) (λ c. is_recycled (get_or (set states b s) c Clean)) put.recycled are.recycled_are
+      recycled_are =
+          followed kinds.recycled.words new.recycled.words b (is_recycled s) (λ c. is_recycled (get_or states c Clean))
+          (λ c. is_recycled (get_or (set states b s) c Clean)) put.recycled are.recycled_are
           (ap is_recycled (get_or-set_same states b s Clean within)) (λ c other. ap is_recycled (state_there c Clean other));
       empty_used_are = followed kinds.empty_used.words new.empty_used.words b (is_empty_used s n) (λ c. is_empty_used (get_or states c Clean) (get_or live c 0))
           (λ c. is_empty_used (get_or (set states b s) c Clean) (get_or (set live b n) c 0)) put.empty_used are.empty_used_are

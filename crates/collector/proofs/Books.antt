@@ -1,5 +1,6 @@
 -- A book stays valid where a block gets another state or live count, and what the record effect makes of its live counts.
-use Rattle.std.proofs.Common.{◌≡◌, ◌≢◌, ◌⊎◌, inl, inr, ℕ, ◌+◌, ◌-◌, ◌*◌, ◌<◌, ◌≤◌, Bool, true, false, cond, IsTrue, if◌then◌else◌, ◌==◌, List, [], ◌∷◌, ◌++◌, length, Option, Some, None, refl, sym, ap, ◌∙◌, subst, arith, get_or-set_same, get_or-set_other, length-set}
+use Rattle.std.proofs.Common.{◌≡◌, ◌≢◌, ◌⊎◌, inl, inr, ℕ, ◌+◌, ◌-◌, ◌*◌, ◌<◌, ◌≤◌, Bool, true, false, cond, IsTrue, if◌then◌else◌, ◌==◌, List, [], ◌∷◌, ◌++◌, length, Option, Some, None, refl}
+use Rattle.std.proofs.Common.{sym, ap, ◌∙◌, subst, arith, get_or-set_same, get_or-set_other, length-set}
 use Rattle.std.proofs.lemmas.Bool.{cases_eq, cases_lt, eq-eqb, ne_eqb, false≢true}
 use Rattle.std.proofs.lemmas.List.{get_or_past}
 use Rattle.block_links.specs.Lists.{times, without}
@@ -128,7 +129,8 @@ pub recorded_states : (v : BookValue) (block : ℕ) (former : Option ℕ) → Sa
 recorded_states v block None = record { states = refl; pages = refl; units = refl; generations = refl }
 recorded_states v block (Some f) = record { states = refl; pages = refl; units = refl; generations = refl }
 
-pub valid_recorded : (v : BookValue) (block : ℕ) (former : Option ℕ) → IsValid v → block < length v.states → live_at v block < v.generations * v.pages → MayDrop v former → IsValid (recorded v block former)
+pub valid_recorded : (v : BookValue) (block : ℕ) (former : Option ℕ) → IsValid v → block < length v.states → live_at v block < v.generations * v.pages → MayDrop v former
+    → IsValid (recorded v block former)
 valid_recorded v block None valid within room may = valid_live v block (live_at v block + 1) valid within (omega arith)
 valid_recorded v block (Some f) valid within room may =
     let more : IsValid (with_live v block (live_at v block + 1)) = valid_live v block (live_at v block + 1) valid within (omega arith) in
@@ -146,7 +148,8 @@ one_in (Some f) c = one_at f c
 more_live : (v : BookValue) (block c : ℕ) → block < length v.live → live_at (with_live v block (live_at v block + 1)) c ≡ live_at v c + one_at block c
 more_live v block c within = elim (cases_eq c block) [
   | inl same ↦ (
-      let now : live_at (with_live v block (live_at v block + 1)) c ≡ live_at v block + 1 = ap (live_at (with_live v block (live_at v block + 1))) same ∙ live_here v block (live_at v block + 1) within in
+      let now : live_at (with_live v block (live_at v block + 1)) c ≡ live_at v block + 1 =
+      ap (live_at (with_live v block (live_at v block + 1))) same ∙ live_here v block (live_at v block + 1) within in
       let one : one_at block c ≡ 1 = ap (λ (t : Bool). if t then 1 else 0) (eq-eqb block c (sym same)) in
       let was : live_at v c ≡ live_at v block = ap (live_at v) same in
       omega (arith, now, one, was))

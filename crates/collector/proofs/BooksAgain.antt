@@ -26,7 +26,8 @@ pub state_twice : (v : BookValue) (b : ℕ) (s t : State) → b < length v.state
 state_twice v b s t within was mid now =
     let here : is_closed (state_at (with_state v b s) b) ≡ false = ap is_closed (state_here v b s within) ∙ mid in
     let states : slice_set (slice_set v.states b s) b t ≡ slice_set v.states b t = set_twice v.states b s t in
-    let order : reordered (is_closed (state_at (with_state v b s) b)) (is_closed t) b (reordered (is_closed (state_at v b)) (is_closed s) b v.order) ≡ reordered (is_closed (state_at v b)) (is_closed t) b v.order
+    let order : reordered (is_closed (state_at (with_state v b s) b)) (is_closed t) b (reordered (is_closed (state_at v b)) (is_closed s) b v.order)
+    ≡ reordered (is_closed (state_at v b)) (is_closed t) b v.order
     = reordered_open _ _ b _ here now ∙ (reordered_open _ _ b v.order was mid ∙ sym (reordered_open _ _ b v.order was now)) in
     λ i. record v { states = states i; order = order i }
 

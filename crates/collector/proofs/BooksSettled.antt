@@ -1,5 +1,6 @@
 -- The book and the map after the seal, move by move.
-use Rattle.std.proofs.Common.{◌≡◌, inl, inr, ℕ, ◌+◌, ◌<◌, false, List, length, slice_set, Option, Some, None, refl, sym, ap, ◌∙◌, subst, arith, length-set, get_or-set_same, get_or-set_other, take, get_or-take}
+use Rattle.std.proofs.Common.{◌≡◌, inl, inr, ℕ, ◌+◌, ◌<◌, false, List, length, slice_set, Option, Some, None, refl, sym, ap, ◌∙◌, subst, arith, length-set, get_or-set_same, get_or-set_other}
+use Rattle.std.proofs.Common.{take, get_or-take}
 use Rattle.std.proofs.lemmas.Bool.{cases_eq, cond-false}
 use Rattle.sector_map.specs.declared.entry.Entry.{Entry}
 use Rattle.sector_map.specs.Entry.{entry_at}
@@ -33,7 +34,8 @@ pub names_more : (first : ℕ) (moves : List Move) (n : ℕ) (old mid : List (Op
 names_more first moves n old mid s within = record {
   long = length-set mid (move_at moves n).sector _ ∙ s.long;
   named = λ i h last. elim (cases_eq i n) [
-    | inl same ↦ subst (λ (k : ℕ). entry_at (slice_set mid (move_at moves n).sector (Some (entry_on (move_at moves n) (first + n)))) (move_at moves k).sector ≡ Some (entry_on (move_at moves k) (first + k))) (sym same)
+    | inl same ↦ subst (λ (k : ℕ). entry_at (slice_set mid (move_at moves n).sector (Some (entry_on (move_at moves n) (first + n)))) (move_at moves k).sector
+        ≡ Some (entry_on (move_at moves k) (first + k))) (sym same)
         (get_or-set_same mid (move_at moves n).sector _ None (omega (arith, within, s.long)))
     | inr apart ↦ get_or-set_other mid (move_at moves n).sector (move_at moves i).sector _ None (λ e. last n (omega (arith, h, apart)) (omega arith) (sym e))
         ∙ s.named i (omega (arith, h, apart)) (λ j k l. last j k (omega (arith, l)))

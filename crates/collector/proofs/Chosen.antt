@@ -1,5 +1,6 @@
 -- The idle victim has a live record, and the first that the map names is the first live one.
-use Rattle.std.proofs.Common.{◌≡◌, ◌⊎◌, inl, inr, ℕ, ◌+◌, ◌-◌, ◌*◌, ◌%◌, ◌<◌, ◌≤◌, Bool, true, false, max, List, length, ◌&&◌, ◌==◌, nat_lt, if◌then◌else◌, IfNone, OnErr, Option, Some, None, Result, Ok, Err, refl, sym, ap, ap₂, ◌∙◌, arith, subst}
+use Rattle.std.proofs.Common.{◌≡◌, ◌⊎◌, inl, inr, ℕ, ◌+◌, ◌-◌, ◌*◌, ◌%◌, ◌<◌, ◌≤◌, Bool, true, false, max, List, length, ◌&&◌, ◌==◌, nat_lt, if◌then◌else◌, IfNone, OnErr, Option, Some, None}
+use Rattle.std.proofs.Common.{Result, Ok, Err, refl, sym, ap, ap₂, ◌∙◌, arith, subst}
 use Rattle.std.proofs.lemmas.Bool.{cases_lt, and_parts, eqb-true, ltb-true, lt-ltb, eq-eqb, false≢true}
 use Rattle.std.proofs.lemmas.Option.{same_Some, none-some}
 use Rattle.std.proofs.lemmas.List.{get_or_past}
@@ -59,7 +60,8 @@ names_entry (Some x) place e = (x, refl, at (says_zeros x.header) e)
     same : (x.place.page == place.page && x.place.slot == place.slot) ≡ true → x.place ≡ place
     same h = let parts = and_parts _ _ h in λ i. record { page = eqb-true x.place.page place.page parts.0 i; slot = eqb-true x.place.slot place.slot parts.1 i }
 
-    at : (t : Bool) → names_slot (if t then Some (Zeros (record { page = x.place.page; slot = x.place.slot })) else Some (Held (record { page = x.place.page; slot = x.place.slot }))) place ≡ true → x.place ≡ place
+    at : (t : Bool) → names_slot (if t then Some (Zeros (record { page = x.place.page; slot = x.place.slot })) else Some (Held (record { page = x.place.page; slot = x.place.slot }))) place ≡ true
+        → x.place ≡ place
     at true h = same h
     at false h = same h
 
@@ -68,7 +70,8 @@ module _ (g : Geometry) (die : DieState) (book : BookValue) (table : List (Optio
   entry_is sector within = ap (λ (map : List (Option Entry)). entry_at map sector) t.entries ∙ entry_live g die.cells sector within
 
   -- a live record is named
-  pub live_named : (sector : ℕ) (x : Placed) → sector < g.sectors → live_record g die.cells sector ≡ Some x → named_in table g.main_bytes die x.place ≡ Some (record { place = x.place; header = x.header })
+  pub live_named : (sector : ℕ) (x : Placed) → sector < g.sectors → live_record g die.cells sector ≡ Some x
+      → named_in table g.main_bytes die x.place ≡ Some (record { place = x.place; header = x.header })
   live_named sector x within e =
       let of : x.header.sector ≡ sector = live_sector g die.cells sector x e in
       let below : x.header.sector < length table = omega arith in
@@ -89,7 +92,8 @@ module _ (g : Geometry) (die : DieState) (book : BookValue) (table : List (Optio
           let below : h.sector < length table = ltb-true _ _ parts.0 in
           let within : h.sector < g.sectors = omega arith in
           let x = names_entry (live_record g die.cells h.sector) place (ap (λ (o : Option Entry). names_slot o place) (sym (entry_is h.sector within)) ∙ parts.1) in
-          let header : x.0.header ≡ h = same_Some x.0.header h (sym (committed_header g die.cells x.0.place x.0.header (live_counts g die.cells h.sector x.0 x.1)) ∙ (ap (header_in g die.cells) x.2 ∙ stands)) in
+          let header : x.0.header ≡ h =
+          same_Some x.0.header h (sym (committed_header g die.cells x.0.place x.0.header (live_counts g die.cells h.sector x.0 x.1)) ∙ (ap (header_in g die.cells) x.2 ∙ stands)) in
           let whole : live_record g die.cells h.sector ≡ Some (record { place = place; header = h }) = x.1 ∙ λ i. Some (record { place = x.2 i; header = header i }) in
           subst (IsLive g die.cells) (same_Some (record { place = place; header = h }) live f) (record { sector = within; is = whole })
 
@@ -193,12 +197,14 @@ module _ (g : Geometry) (sizes : Sizes) (die : DieState) (book : BookValue) (tab
 
   -- so a search that fails does so on its page at the latest
   pub named_sooner : (victim : ℕ) (first : Placed) (new : DieState) → IsFirstLive g die.cells victim first
-      → ((has : HasNamed table sizes die (victim * g.pages) g.pages) → ReadFailed 0 (has.live.place.page + 1 - victim * g.pages) die new) → ReadFailed 0 (first.place.page + 1 - victim * g.pages) die new
+      → ((has : HasNamed table sizes die (victim * g.pages) g.pages) → ReadFailed 0 (has.live.place.page + 1 - victim * g.pages) die new)
+      → ReadFailed 0 (first.place.page + 1 - victim * g.pages) die new
   unfolding first_named
   named_sooner victim first new is f = f (first_named victim first is)
 
   -- the first that is named is the first live one
-  pub first_live : (victim : ℕ) (live : LiveRecord) → IsFirstNamed table sizes die (victim * g.pages) g.pages live → IsFirstLive g die.cells victim (record { place = live.place; header = live.header })
+  pub first_live : (victim : ℕ) (live : LiveRecord) → IsFirstNamed table sizes die (victim * g.pages) g.pages live
+      → IsFirstLive g die.cells victim (record { place = live.place; header = live.header })
   first_live victim live f =
       let is = named_live g die book table seq t sectors live.place live (sym (at_bytes live.place) ∙ f.named) in
       record {
@@ -227,12 +233,14 @@ gets_few g p = at (says_zeros p.header) (p.place.slot == 0)
     at false false = omega arith
 
 pub moved_calls : (g : Geometry) (meaning : Meaning) (live : LiveRecord) (block : ℕ) (old mid new : DieState) → meaning.span ≡ g.span
-    → Passed 0 (live.place.page + 1 - block * g.pages) old mid → Passed 2 (again_reads meaning live) mid new → PassedWithin 2 (move_reads g block (record { place = live.place; header = live.header })) old new
+    → Passed 0 (live.place.page + 1 - block * g.pages) old mid → Passed 2 (again_reads meaning live) mid new
+    → PassedWithin 2 (move_reads g block (record { place = live.place; header = live.header })) old new
 moved_calls g meaning live block old mid new spans first second =
     passed_within (move_reads g block (record { place = live.place; header = live.header })) (omega (arith, again_gets g meaning live spans)) (passed_trans first second)
 
 -- the move of a record from the same cells
-pub moved_from : (g : Geometry) (d : Decoding) (live : LiveRecord) (page : ℕ) (old new : Store) (mid : DieState) → SameCells old.die mid → MovedRecord g d live page (record old { die = mid }) new → MovedRecord g d live page old new
+pub moved_from : (g : Geometry) (d : Decoding) (live : LiveRecord) (page : ℕ) (old new : Store) (mid : DieState) → SameCells old.die mid → MovedRecord g d live page (record old { die = mid }) new
+    → MovedRecord g d live page old new
 moved_from g d live page old new mid same m = record {
   there = m.there;
   others = λ sector other. m.others sector other ∙ ap (λ (cells : List (List ℕ)). live_record g cells sector) same.cells;
@@ -244,9 +252,11 @@ moved_from g d live page old new mid same m = record {
 }
 
 -- a record of the victim was moved
-pub moved_one : (g : Geometry) (meaning : Meaning) (old new : Store) (mid : DieState) (page room victim : ℕ) (live : LiveRecord) → old.book.pages ≡ g.pages → meaning.span ≡ g.span → IsNextPage old.book page room
+pub moved_one : (g : Geometry) (meaning : Meaning) (old new : Store) (mid : DieState) (page room victim : ℕ) (live : LiveRecord) → old.book.pages ≡ g.pages → meaning.span ≡ g.span
+    → IsNextPage old.book page room
     → IsIdleVictim old.book room victim → SameCells old.die mid → Passed 0 (live.place.page + 1 - victim * g.pages) old.die mid
-    → IsFirstLive g old.die.cells victim (record { place = live.place; header = live.header }) → MovedRecord g meaning.decoding live page (record old { die = mid }) new → new.die.erases ≡ mid.erases → Passed 2 (again_reads meaning live) mid new.die
+    → IsFirstLive g old.die.cells victim (record { place = live.place; header = live.header }) → MovedRecord g meaning.decoding live page (record old { die = mid }) new
+    → new.die.erases ≡ mid.erases → Passed 2 (again_reads meaning live) mid new.die
     → Moved g meaning.decoding old new
 moved_one g meaning old new mid page room victim live pages spans next is same passed first moved still put =
     let m = moved_from g meaning.decoding live page old new mid same moved in
@@ -298,7 +308,8 @@ one_first g cells block a b first other = λ i. record { place = place i; header
 -- A read of getting the victim's first live record failed, or one before it.
 pub read_failed_one : (g : Geometry) (meaning : Meaning) (old new : Store) (mid : DieState) (page room victim : ℕ) (live : LiveRecord) → meaning.span ≡ g.span → IsNextPage old.book page room
     → IsIdleVictim old.book room victim → SameCells old.die mid → Passed 0 (live.place.page + 1 - victim * g.pages) old.die mid
-    → live.place.page < victim * g.pages + g.pages → IsFirstLive g old.die.cells victim (record { place = live.place; header = live.header }) → MoveFails g meaning live Read (record old { die = mid }) new → MoveReadFailed g old new
+    → live.place.page < victim * g.pages + g.pages → IsFirstLive g old.die.cells victim (record { place = live.place; header = live.header })
+    → MoveFails g meaning live Read (record old { die = mid }) new → MoveReadFailed g old new
 read_failed_one g meaning old new mid page room victim live spans next is same passed high first m = record {
   same = m.0;
   cells = record { cells = m.1.cells ∙ same.cells; erases = m.1.erases ∙ same.erases };
@@ -306,13 +317,18 @@ read_failed_one g meaning old new mid page room victim live spans next is same p
   is_room = inl (next.block, next.fill, next.active, next.room_is);
   victim = victim;
   is_victim = is;
-  failed = read_failed_within 0 (g.pages + max 1 g.span) (omega arith) (omega (arith, high, again_gets g meaning live spans, gets_few g (record { place = live.place; header = live.header }))) (read_failed_after passed m.2);
-  by_then = λ other is_other. subst (λ (p : Placed). ReadFailed 0 (move_reads g victim p) old.die new.die) (one_first g old.die.cells victim (record { place = live.place; header = live.header }) other first is_other)
+  failed =
+      read_failed_within 0 (g.pages + max 1 g.span) (omega arith) (omega (arith, high, again_gets g meaning live spans, gets_few g (record { place = live.place; header = live.header })))
+      (read_failed_after passed m.2);
+  by_then =
+      λ other is_other. subst (λ (p : Placed). ReadFailed 0 (move_reads g victim p) old.die new.die)
+      (one_first g old.die.cells victim (record { place = live.place; header = live.header }) other first is_other)
       (read_failed_within 0 (move_reads g victim (record { place = live.place; header = live.header })) (omega arith) (omega (arith, again_gets g meaning live spans)) (read_failed_after passed m.2));
 }
 
 -- A read of the search for it failed.
-pub search_failed_one : (g : Geometry) (old : Store) (new : DieState) (page room victim : ℕ) → IsNextPage old.book page room → IsIdleVictim old.book room victim → SameCells old.die new → ReadFailed 0 g.pages old.die new
+pub search_failed_one : (g : Geometry) (old : Store) (new : DieState) (page room victim : ℕ) → IsNextPage old.book page room → IsIdleVictim old.book room victim → SameCells old.die new
+    → ReadFailed 0 g.pages old.die new
     → ((first : Placed) → IsFirstLive g old.die.cells victim first → ReadFailed 0 (first.place.page + 1 - victim * g.pages) old.die new) → MoveReadFailed g old (record old { die = new })
 search_failed_one g old new page room victim next is same any failed = record {
   same = refl;
@@ -327,7 +343,8 @@ search_failed_one g old new page room victim next is same any failed = record {
 
 pub change_failed_one : (g : Geometry) (meaning : Meaning) (old new : Store) (mid : DieState) (page room victim : ℕ) (live : LiveRecord) → meaning.span ≡ g.span → IsNextPage old.book page room
     → IsIdleVictim old.book room victim → SameCells old.die mid → Passed 0 (live.place.page + 1 - victim * g.pages) old.die mid
-    → IsFirstLive g old.die.cells victim (record { place = live.place; header = live.header }) → MoveFails g meaning live Change (record old { die = mid }) new → new.die.erases ≡ mid.erases → MoveChangeFailed g meaning.decoding old new
+    → IsFirstLive g old.die.cells victim (record { place = live.place; header = live.header }) → MoveFails g meaning live Change (record old { die = mid }) new → new.die.erases ≡ mid.erases
+    → MoveChangeFailed g meaning.decoding old new
 change_failed_one g meaning old new mid page room victim live spans next is same passed first m still = record {
   same = m.0;
   rows = m.1 ∙ ap (stored g meaning.decoding) same.cells;
@@ -338,7 +355,9 @@ change_failed_one g meaning old new mid page room victim live spans next is same
   first = record { place = live.place; header = live.header };
   is_first = first;
   erases = still ∙ same.erases;
-  failed = change_failed_within 2 (move_reads g victim (record { place = live.place; header = live.header })) (omega arith) (omega (arith, again_gets g meaning live spans)) (change_failed_after passed m.2);
+  failed =
+      change_failed_within 2 (move_reads g victim (record { place = live.place; header = live.header })) (omega arith) (omega (arith, again_gets g meaning live spans))
+      (change_failed_after passed m.2);
 }
 
 -- the block of the next page has a page
@@ -352,10 +371,12 @@ pub same_geometry : (old mid : Shape) (meaning : Meaning) (sectors : ℕ) → mi
 same_geometry old mid meaning sectors same = ap (λ (s : Shape). geometry_of s meaning sectors) same
 
 -- the pages of a block by the book's number
-pub first_at : (table : List (Option Entry)) (sizes : Sizes) (die : DieState) (victim pages pages' : ℕ) (live : LiveRecord) → pages ≡ pages' → IsFirstNamed table sizes die (victim * pages) pages live → IsFirstNamed table sizes die (victim * pages') pages' live
+pub first_at : (table : List (Option Entry)) (sizes : Sizes) (die : DieState) (victim pages pages' : ℕ) (live : LiveRecord) → pages ≡ pages'
+    → IsFirstNamed table sizes die (victim * pages) pages live → IsFirstNamed table sizes die (victim * pages') pages' live
 first_at table sizes die victim pages pages' live same f = subst (λ (n : ℕ). IsFirstNamed table sizes die (victim * n) n live) same f
 
-pub named_at : (table : List (Option Entry)) (sizes : Sizes) (die : DieState) (victim pages pages' : ℕ) → pages ≡ pages' → HasNamed table sizes die (victim * pages) pages → HasNamed table sizes die (victim * pages') pages'
+pub named_at : (table : List (Option Entry)) (sizes : Sizes) (die : DieState) (victim pages pages' : ℕ) → pages ≡ pages' → HasNamed table sizes die (victim * pages) pages
+    → HasNamed table sizes die (victim * pages') pages'
 named_at table sizes die victim pages pages' same h = subst (λ (n : ℕ). HasNamed table sizes die (victim * n) n) same h
 
 pub failed_at : (table : List (Option Entry)) (sizes : Sizes) (old new : DieState) (victim pages pages' : ℕ) → pages ≡ pages'
@@ -364,7 +385,8 @@ pub failed_at : (table : List (Option Entry)) (sizes : Sizes) (old new : DieStat
 failed_at table sizes old new victim pages pages' same f =
     subst (λ (n : ℕ). (has : HasNamed table sizes old (victim * n) n) → ReadFailed 0 (has.live.place.page + 1 - victim * n) old new) same f
 
-pub failed_any : (table : List (Option Entry)) (sizes : Sizes) (old new : DieState) (victim pages : ℕ) → ((has : HasNamed table sizes old (victim * pages) pages) → ReadFailed 0 (has.live.place.page + 1 - victim * pages) old new)
+pub failed_any : (table : List (Option Entry)) (sizes : Sizes) (old new : DieState) (victim pages : ℕ)
+    → ((has : HasNamed table sizes old (victim * pages) pages) → ReadFailed 0 (has.live.place.page + 1 - victim * pages) old new)
     → HasNamed table sizes old (victim * pages) pages → ReadFailed 0 pages old new
 failed_any table sizes old new victim pages f has = read_failed_within 0 pages (omega arith) (omega (arith, has.low, has.high)) (f has)
 

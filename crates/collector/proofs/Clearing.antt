@@ -67,7 +67,8 @@ header_fell g old new block f was now sound place h e = elim (cases_eq (block_of
       (bytes_take _ _ (bytes_drop (16 * place.slot + 1) _ (bytes_drop g.main_bytes _ (now.small place.page)))) (header_valid _ h e))) ∙ e)
 ]
 
-tears : (g : Geometry) (old new : List (List ℕ)) (block : ℕ) → Falls g old new block → HasShape (shape_of g) old → HasShape (shape_of g) new → 0 < g.pages → 1 ≤ g.generations → live_count g old block ≡ 0 → IsSound g old → TearsBlock g old new block
+tears : (g : Geometry) (old new : List (List ℕ)) (block : ℕ) → Falls g old new block → HasShape (shape_of g) old → HasShape (shape_of g) new → 0 < g.pages → 1 ≤ g.generations
+    → live_count g old block ≡ 0 → IsSound g old → TearsBlock g old new block
 tears g old new block f was now some one free sound = record {
   pages = some;
   slots = one;
@@ -143,7 +144,8 @@ module _ (g : Geometry) (spare : ℕ) (now : Store) (s : SparesIn g spare now) w
       free (Recycled level next) is t = absurd (false≢true is)
       free Reused is t = absurd (false≢true is)
 
-falls_whole : (g : Geometry) (old new : DieState) (block : ℕ) → old.shape ≡ shape_of g → IsShaped old → block < g.blocks → IsErased block old new → OnlyBlock block old new → Falls g old.cells new.cells block
+falls_whole : (g : Geometry) (old new : DieState) (block : ℕ) → old.shape ≡ shape_of g → IsShaped old → block < g.blocks → IsErased block old new → OnlyBlock block old new
+    → Falls g old.cells new.cells block
 falls_whole g old new block shape shaped within erased only = record {
   others = λ page apart. only.pages page (λ here. apart (sym (same_block g old page shape) ∙ here));
   fell = λ page here.

@@ -24,7 +24,8 @@ use Rattle.page_codec.specs.Records.{live_record}
 use Rattle.page_codec.specs.Sizes.{Sizes, Serves, ServesScheme}
 use Rattle.page_codec.specs.Sectors.{InCells}
 use Rattle.page_codec.specs.Sound.{IsSound, stands_in}
-use Rattle.collector.specs.Collections.{Collected, CollectReadFailed, CollectChangeFailed, Marks, as_it_was, erased, copied_to, erased_and_copied_to, collection_calls, collection_reads, erase_calls, get_reads, nth}
+use Rattle.collector.specs.Collections.{Collected, CollectReadFailed, CollectChangeFailed, Marks, as_it_was, erased, copied_to, erased_and_copied_to, collection_calls, collection_reads}
+use Rattle.collector.specs.Collections.{erase_calls, get_reads, nth}
 use Rattle.collector.specs.Inside.{Begun, CollectEnds}
 use Rattle.collector.specs.Steps.{MadeBlank, was_blank, was_erased}
 use Rattle.collector.specs.Store.{Store, store, geometry_of, Holds}
@@ -87,7 +88,9 @@ within_after c d s old mid new first second = record {
   read_faults = second.read_faults ∙ first.read_faults;
   change_faults = second.change_faults ∙ first.change_faults;
   failures = while_after c d s old.failures mid.failures new.failures first.failures second.failures;
-  changed = told_trans (IsChanged c old mid) (IsChanged d mid new) (IsChanged (c + d) old new) (Nearer c 0) (λ a b near. near.powered) (changed_trans c d old mid new) old.failures mid.failures new.failures first.failures first.changed second.changed;
+  changed =
+      told_trans (IsChanged c old mid) (IsChanged d mid new) (IsChanged (c + d) old new) (Nearer c 0) (λ a b near. near.powered)
+      (changed_trans c d old mid new) old.failures mid.failures new.failures first.failures first.changed second.changed;
 }
 
 -- ---- before the copies
@@ -111,7 +114,8 @@ closed_apart v b c closed spare same = at (state_at v c) (ap (λ (k : ℕ). is_c
     at Reused closed is = false≢true is
 
 pub begun_after : (g : Geometry) (d : Decoding) (victim spare : ℕ) (old new : DieState) (book after : BookValue) (table : List (Option Entry)) (seq : ℕ) → MadeBlank spare old book new after
-    → SparesIn g spare (store old table book seq) → BlankedSo g d spare (store old table book seq) (store new table after seq) → IsCollectBranch book victim spare → live_at book victim < book.pages → seq < 2 ^ 62
+    → SparesIn g spare (store old table book seq) → BlankedSo g d spare (store old table book seq) (store new table after seq) → IsCollectBranch book victim spare → live_at book victim < book.pages
+    → seq < 2 ^ 62
     → Begun g victim spare (store new table after seq)
 begun_after g d victim spare old new book after table seq made s so branch few fresh = record {
   tables = so.tables;
@@ -161,11 +165,14 @@ calls_more book victim spare is now =
     let none : erase_calls (state_at (with_state book spare (Spare true)) spare) ≡ 0 = ap erase_calls now in
     omega (arith, one, none)
 
-reads_same : (g : Geometry) (old new : List (List ℕ)) (victim : ℕ) → ((sector : ℕ) → live_record g new sector ≡ live_record g old sector) → collection_reads g new victim ≡ collection_reads g old victim
+reads_same : (g : Geometry) (old new : List (List ℕ)) (victim : ℕ) → ((sector : ℕ) → live_record g new sector ≡ live_record g old sector)
+    → collection_reads g new victim ≡ collection_reads g old victim
 reads_same g old new victim same = λ i. g.pages + sum_by (λ sector. if stands_in g victim (same sector i) then get_reads g (same sector i) else 0) (range_with_len 0 g.sectors)
 
-pub ends_after : (g : Geometry) (d : Decoding) (victim spare : ℕ) (old mid : DieState) (book marked : BookValue) (table : List (Option Entry)) (seq : ℕ) (new : Store) (result : Result ℕ PutFault) → MadeBlank spare old book mid marked
-    → IsSpare book spare → BlankedSo g d spare (store old table book seq) (store mid table marked seq) → CollectEnds g d victim spare (store mid table marked seq) new result → CollectEnds g d victim spare (store old table book seq) new result
+pub ends_after : (g : Geometry) (d : Decoding) (victim spare : ℕ) (old mid : DieState) (book marked : BookValue) (table : List (Option Entry)) (seq : ℕ) (new : Store) (result : Result ℕ PutFault)
+    → MadeBlank spare old book mid marked
+    → IsSpare book spare → BlankedSo g d spare (store old table book seq) (store mid table marked seq) → CollectEnds g d victim spare (store mid table marked seq) new result
+    → CollectEnds g d victim spare (store old table book seq) new result
 ends_after g d victim spare old _ book _ table seq new result (was_blank is) spare_is so ends = ends
 ends_after g d victim spare old _ book _ table seq new (Ok moved) (was_erased mid is e only kept passed) spare_is so ends =
     let c = ends.1 in (
@@ -219,7 +226,8 @@ ends_after g d victim spare old _ book _ table seq new (Err Change) (was_erased 
 
 -- ---- the erase failed
 
-pub erase_ends : (g : Geometry) (d : Decoding) (victim spare : ℕ) (old new : Store) → new.table ≡ old.table → new.book ≡ old.book → new.seq ≡ old.seq → TornSo g d old new → ChangeFailed 1 0 old.die new.die
+pub erase_ends : (g : Geometry) (d : Decoding) (victim spare : ℕ) (old new : Store) → new.table ≡ old.table → new.book ≡ old.book → new.seq ≡ old.seq → TornSo g d old new
+    → ChangeFailed 1 0 old.die new.die
     → CollectEnds g d victim spare old new (Err Change)
 erase_ends g d victim spare old new table book seq torn failed = record {
   copies = 0;

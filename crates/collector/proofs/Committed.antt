@@ -27,11 +27,13 @@ below_parts g (Some k) h e = at (nat_lt k.sector g.sectors) refl e
     at true l m = let same = same_Some k h m in (ap Some same, subst (λ (x : Header). x.sector < g.sectors) same (ltb-true _ _ l))
     at false l m = absurd (none-some h m)
 
-pub record_parts : (g : Geometry) (cells : List (List ℕ)) (place : Place) (h : Header) → record_in g cells place ≡ Some h → (may_hold g place ≡ true) × (header_in g cells place ≡ Some h) × (h.sector < g.sectors)
+pub record_parts : (g : Geometry) (cells : List (List ℕ)) (place : Place) (h : Header) → record_in g cells place ≡ Some h
+    → (may_hold g place ≡ true) × (header_in g cells place ≡ Some h) × (h.sector < g.sectors)
 unfolding record_in
 record_parts g cells place h e = at (may_hold g place) refl e
   where
-    at : (t : Bool) → may_hold g place ≡ t → (if t then below_sectors g (header_in g cells place) else None) ≡ Some h → (may_hold g place ≡ true) × (header_in g cells place ≡ Some h) × (h.sector < g.sectors)
+    at : (t : Bool) → may_hold g place ≡ t → (if t then below_sectors g (header_in g cells place) else None) ≡ Some h
+        → (may_hold g place ≡ true) × (header_in g cells place ≡ Some h) × (h.sector < g.sectors)
     at true m k = let p = below_parts g (header_in g cells place) h k in (m, p.0, p.1)
     at false m k = absurd (none-some h k)
 

@@ -48,8 +48,10 @@ reads_are : (meaning : Meaning) (place : Place) (header : Header) → says_zeros
 reads_are meaning place header bytes = add-zero (reads_of meaning place) ∙ sym (cond-false (says_zeros header) 0 (reads_of meaning place) bytes)
 
 -- the reads come first, and then the two change calls
-pub passed_after_get : (meaning : Meaning) (place : Place) (header : Header) (old mid new : DieState) → says_zeros header ≡ false → Passed 0 (reads_of meaning place) old mid → Passed 2 0 mid new → Passed 2 (copy_reads meaning place header) old new
+pub passed_after_get : (meaning : Meaning) (place : Place) (header : Header) (old mid new : DieState) → says_zeros header ≡ false → Passed 0 (reads_of meaning place) old mid → Passed 2 0 mid new
+    → Passed 2 (copy_reads meaning place header) old new
 passed_after_get meaning place header old mid new bytes first second = subst (λ (r : ℕ). Passed 2 r old new) (reads_are meaning place header bytes) (passed_trans first second)
 
-pub failed_after_get : (meaning : Meaning) (place : Place) (header : Header) (old mid new : DieState) → says_zeros header ≡ false → Passed 0 (reads_of meaning place) old mid → ChangeFailed 2 0 mid new → ChangeFailed 2 (copy_reads meaning place header) old new
+pub failed_after_get : (meaning : Meaning) (place : Place) (header : Header) (old mid new : DieState) → says_zeros header ≡ false → Passed 0 (reads_of meaning place) old mid
+    → ChangeFailed 2 0 mid new → ChangeFailed 2 (copy_reads meaning place header) old new
 failed_after_get meaning place header old mid new bytes first second = subst (λ (r : ℕ). ChangeFailed 2 r old new) (reads_are meaning place header bytes) (change_failed_after first second)

@@ -36,7 +36,8 @@ use Rattle.collector.proofs.Says.{cells_there, put_says}
 use Rattle.collector.proofs.Reaching.{two_slots, free_spare, live_is, fresh_now, marked_next}
 
 -- The put of the copy of the live record at the cursor.
-pub record Copies (g : Geometry) (meaning : Meaning) (victim spare : ℕ) (start now : Store) (cursor : ℕ) (records : List Placed) (x : Placed) (new : DieState) (after : BookValue) (next : ℕ) : Type 0 where
+pub record Copies (g : Geometry) (meaning : Meaning) (victim spare : ℕ) (start now : Store) (cursor : ℕ) (records : List Placed) (x : Placed) (new : DieState) (after : BookValue)
+    (next : ℕ) : Type 0 where
   pub begun : Begun g victim spare start
   pub inside : Inside g meaning.decoding spare start now records
   pub scanned : Scanned g start.die.cells victim cursor records
@@ -101,7 +102,8 @@ module _ (g : Geometry) (meaning : Meaning) (victim spare : ℕ) (start now : St
 
   cells_put : PutsCells g (copy_of g spare start.seq x (length records)).place (copy_of g spare start.seq x (length records)).header now.die.cells new.cells
   cells_put = subst (λ (h : Header). PutsCells g (first_slot (spare * g.pages + length records)) h now.die.cells new.cells) header_is
-      (put_cells g (first_slot (spare * g.pages + length records)) (copied_header x.header now.seq) now.die new c.put.put shape_now c.kept.shape c.shaped c.shaped_new page_in (omega (arith, one_slot)))
+      (put_cells g (first_slot (spare * g.pages + length records)) (copied_header x.header now.seq) now.die new c.put.put shape_now c.kept.shape c.shaped c.shaped_new page_in
+      (omega (arith, one_slot)))
 
   keeps : Keeps g (copy_of g spare start.seq x (length records)).place (copy_of g spare start.seq x (length records)).header now.die.cells new.cells
   keeps = subst (λ (h : Header). KeepsRecords (first_slot (spare * g.pages + length records)) h now.die new) header_is c.put.records g

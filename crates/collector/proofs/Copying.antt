@@ -1,5 +1,6 @@
 -- One copy more: its put leaves the facts inside a collection, and torn it changes no live record.
-use Rattle.std.proofs.Common.{◌≡◌, ◌≢◌, inl, inr, ℕ, ◌+◌, ◌*◌, ◌<◌, ◌≤◌, Bool, true, false, List, [], ◌∷◌, ◌++◌, length, take, drop, ◌==◌, ◌||◌, if◌then◌else◌, Some, None, refl, sym, ap, ◌∙◌, subst, arith}
+use Rattle.std.proofs.Common.{◌≡◌, ◌≢◌, inl, inr, ℕ, ◌+◌, ◌*◌, ◌<◌, ◌≤◌, Bool, true, false, List, [], ◌∷◌, ◌++◌, length, take, drop, ◌==◌, ◌||◌, if◌then◌else◌, Some, None, refl, sym, ap, ◌∙◌}
+use Rattle.std.proofs.Common.{subst, arith}
 use Rattle.std.proofs.lemmas.Bool.{cases_lt, and_from, lt-ltb}
 use native.Mathlib.Nat.{mul-le-mul_right, suc-mul}
 use Rattle.zero_count.specs.declared.Header.{Header}
@@ -78,7 +79,8 @@ module _ (g : Geometry) (d : Decoding) (spare seq : ℕ) (start old new : List (
   -- no live record changes, also where the put is torn
   pub copy_leaves_live : (sector : ℕ) → live_record g new sector ≡ live_record g start sector
   copy_leaves_live sector =
-      copy_keeps_live g (copy_of g spare seq x (length records)).place (copy_of g spare seq x (length records)).header old new p.put holds_copy (is_copied_kind x.header.sector (seq + length records) x.header)
+      copy_keeps_live g (copy_of g spare seq x (length records)).place (copy_of g spare seq x (length records)).header old new p.put holds_copy
+      (is_copied_kind x.header.sector (seq + length records) x.header)
       (blank_gate g old (spare * g.pages + length records) blank_before 0)
       (ap (is_sealed g old) (in_spare (length records) p.room) ∙ p.taking.unsealed) sector
       ∙ p.taking.live sector

@@ -18,7 +18,8 @@ made_erased spare old _ book _ (was_erased new is erased only kept passed) =
     subst (λ (s : State). Erased (erased_in s spare) old new) (sym is) (record { count = erased.count; others = only.counts })
 
 -- an erase of it that failed
-pub torn_erased : (spare : ℕ) (old new : DieState) (book : BookValue) → state_at book spare ≡ Spare false → SameCells old new ⊎ ErasedInPart spare old new → OnlyBlock spare old new → ChangeFailed 1 0 old new
+pub torn_erased : (spare : ℕ) (old new : DieState) (book : BookValue) → state_at book spare ≡ Spare false → SameCells old new ⊎ ErasedInPart spare old new → OnlyBlock spare old new
+    → ChangeFailed 1 0 old new
     → ErasedOrBroken (erased_in (state_at book spare) spare) old new
 torn_erased spare old new book is (inl same) only failed = inr (same.erases, failed)
 torn_erased spare old new book is (inr torn) only failed = inl (subst (λ (s : State). Erased (erased_in s spare) old new) (sym is) (record { count = torn.count; others = only.counts }))

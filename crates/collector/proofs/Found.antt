@@ -1,5 +1,6 @@
 -- At a slot with a live record there is a blank page left for its copy, and room to note it.
-use Rattle.std.proofs.Common.{◌≡◌, inl, inr, ℕ, ◌+◌, ◌-◌, ◌*◌, ◌%◌, ◌^◌, ◌<◌, ◌≤◌, true, false, List, length, drop, ◌==◌, if◌then◌else◌, slice_set, Some, Ok, Err, refl, sym, ap, ap₂, ◌∙◌, subst, arith}
+use Rattle.std.proofs.Common.{◌≡◌, inl, inr, ℕ, ◌+◌, ◌-◌, ◌*◌, ◌%◌, ◌^◌, ◌<◌, ◌≤◌, true, false, List, length, drop, ◌==◌, if◌then◌else◌, slice_set, Some, Ok, Err, refl, sym, ap, ap₂, ◌∙◌, subst}
+use Rattle.std.proofs.Common.{arith}
 use Rattle.std.proofs.lemmas.Bool.{cases_eq, cond-true, cond-false, eq-eqb, ne_eqb}
 use native.Mathlib.Nat.{mul-le-mul_right, suc-mul}
 use Rattle.zero_count.specs.declared.Header.{Header}
@@ -62,7 +63,9 @@ module _ (g : Geometry) (meaning : Meaning) (spare : ℕ) (start now : Store) (p
   -- no live record in the slot
   pub slot_skipped : ((h : Header) → header_in g now.die.cells place ≡ Some h → names_slot (entry_at now.table h.sector) place ≡ false)
       → Reached g meaning.decoding (block_of g place.page) spare start now (place.page % g.pages * g.generations + (place.slot + 1)) pages copies moves
-  slot_skipped none = subst (λ (n : ℕ). Reached g meaning.decoding (block_of g place.page) spare start now n pages copies moves) next_number (reached_skip g meaning (block_of g place.page) spare start s.begun now (number_of g place) pages copies moves s.reached
+  slot_skipped none =
+      subst (λ (n : ℕ). Reached g meaning.decoding (block_of g place.page) spare start now n pages copies moves) next_number
+      (reached_skip g meaning (block_of g place.page) spare start s.begun now (number_of g place) pages copies moves s.reached
       (unnamed_none g start.die.cells (block_of g place.page) place one_slot s.slot refl
       (λ h e. subst (λ table. names_slot (entry_at table h.sector) place ≡ false) table_is (none h (sym header_was ∙ e)))))
 
@@ -148,8 +151,12 @@ module _ (g : Geometry) (meaning : Meaning) (spare : ℕ) (start now : Store) (p
       }
 
       pub slot_copied : {T : Type 0} (done : T) → CopyEnds meaning spare page place h (Ok done) now.die now.book now.seq new after next
-          → Reached g meaning.decoding (block_of g place.page) spare start (store new now.table after next) (place.page % g.pages * g.generations + (place.slot + 1)) pages (copies + 1) (slice_set moves copies (move_of (placed_at place h)))
-      slot_copied done ends = subst (λ (n : ℕ). Reached g meaning.decoding (block_of g place.page) spare start (store new now.table after next) n pages (copies + 1) (slice_set moves copies (move_of (placed_at place h)))) next_number (reached_take g meaning (block_of g place.page) spare start s.begun now (number_of g place) pages copies moves s.reached (placed_at place h) new after next
+          → Reached g meaning.decoding (block_of g place.page) spare start (store new now.table after next) (place.page % g.pages * g.generations + (place.slot + 1)) pages (copies + 1)
+          (slice_set moves copies (move_of (placed_at place h)))
+      slot_copied done ends =
+          subst (λ (n : ℕ). Reached g meaning.decoding (block_of g place.page) spare start (store new now.table after next) n pages (copies + 1)
+          (slice_set moves copies (move_of (placed_at place h)))) next_number
+          (reached_take g meaning (block_of g place.page) spare start s.begun now (number_of g place) pages copies moves s.reached (placed_at place h) new after next
           (copies_of ends.0)
           (subst (λ (q : ℕ). is_gated new (first_slot q) ≡ true) (is_page ∙ ap (λ (n : ℕ). spare * g.pages + n) s.reached.copied) ends.1)
           ends.2 (omega (arith, found_room, s.room)))
@@ -171,4 +178,5 @@ module _ (g : Geometry) (meaning : Meaning) (spare : ℕ) (start now : Store) (p
           subst (ReadStopped g meaning.decoding (block_of g place.page) spare start) (ap₂ (λ (v : BookValue) (n : ℕ). store new now.table v n) (sym ends.1) (sym ends.2))
           (read_stops g meaning (block_of g place.page) spare start s.begun now (number_of g place) pages copies (copy_reads meaning place h) moves new s.reached ends.0 kept ends.3 reads_few)
       slot_failed T Change ends =
-          change_stops g meaning (block_of g place.page) spare start s.begun now (number_of g place) pages copies moves s.reached (placed_at place h) new after next (copies_of ends.0) s.few_pages ends.1
+          change_stops g meaning (block_of g place.page) spare start s.begun now (number_of g place) pages copies moves s.reached (placed_at place h) new after next
+          (copies_of ends.0) s.few_pages ends.1

@@ -46,10 +46,12 @@ fresh_seqs g cells seq (inl below) small place k e = below place k e
 fresh_seqs g cells seq (inr greatest) small place k e = absurd (omega arith)
 
 -- Another block without a live record still has none, in either outcome.
-pub free_after : (g : Geometry) (place : Place) (h : Header) (old new : List (List ℕ)) → PutsRecord g place h old new → (block : ℕ) → block_of g place.page ≢ block → live_count g old block ≡ 0 → live_count g new block ≡ 0
+pub free_after : (g : Geometry) (place : Place) (h : Header) (old new : List (List ℕ)) → PutsRecord g place h old new → (block : ℕ) → block_of g place.page ≢ block → live_count g old block ≡ 0
+    → live_count g new block ≡ 0
 free_after g place h old new p block apart free = free_stays g old new block (λ sector within stands. at sector stands (cases_Bool (is_gate_charged (spare_at g new place.page) place.slot))) free
   where
-    own : (sector : ℕ) → is_gate_charged (spare_at g new place.page) place.slot ≡ true → stands_in g block (live_record g new sector) ≡ true → (sector ≡ h.sector) ⊎ (sector ≢ h.sector) → live_record g new sector ≡ live_record g old sector
+    own : (sector : ℕ) → is_gate_charged (spare_at g new place.page) place.slot ≡ true → stands_in g block (live_record g new sector) ≡ true → (sector ≡ h.sector) ⊎ (sector ≢ h.sector)
+        → live_record g new sector ≡ live_record g old sector
     own sector charged stands (inr other) = (put_wins g place h old new p.put p.holds p.single p.gate charged (λ q k e. p.fresh q k (committed_header g old q k e))).others sector other
     own sector charged stands (inl same) =
         let there = (put_wins g place h old new p.put p.holds p.single p.gate charged (λ q k e. p.fresh q k (committed_header g old q k e))).live in
@@ -95,7 +97,8 @@ same_holds g old new kept same seq = record {
   drew = λ _ place k e. inl (ap (λ (cells : List (List ℕ)). header_in g cells place) (sym same.cells) ∙ e);
 }
 
-pub holds_after : (g : Geometry) (old new : Store) (mid : DieState) → Kept old.die mid → SameCells old.die mid → mid.change_faults ≡ old.die.change_faults → Holds g (record old { die = mid }) new → Holds g old new
+pub holds_after : (g : Geometry) (old new : Store) (mid : DieState) → Kept old.die mid → SameCells old.die mid → mid.change_faults ≡ old.die.change_faults → Holds g (record old { die = mid }) new
+    → Holds g old new
 holds_after g old new mid kept same stayed rest = record {
   kept = kept_trans kept rest.kept;
   pads = λ none. rest.pads (subst (NoPadCharged (shape_of g)) (sym same.cells) none);

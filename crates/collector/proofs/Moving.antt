@@ -1,6 +1,7 @@
 -- A live record that is put again on the next page of the Active block says the same, so all sectors stay; from its gate on it is
 -- the live one of its sector.
-use Rattle.std.proofs.Common.{◌≡◌, ◌⊎◌, inl, inr, ℕ, ◌+◌, ◌*◌, ◌/◌, ◌^◌, ◌<◌, ◌≤◌, Bool, true, false, List, length, drop, slice_set, ◌||◌, ◌==◌, if◌then◌else◌, Option, Some, refl, sym, ap, ◌∙◌, arith, subst}
+use Rattle.std.proofs.Common.{◌≡◌, ◌⊎◌, inl, inr, ℕ, ◌+◌, ◌*◌, ◌/◌, ◌^◌, ◌<◌, ◌≤◌, Bool, true, false, List, length, drop, slice_set, ◌||◌, ◌==◌, if◌then◌else◌, Option, Some, refl, sym, ap, ◌∙◌}
+use Rattle.std.proofs.Common.{arith, subst}
 use Rattle.std.proofs.lemmas.Bool.{cases_Bool}
 use Rattle.std.proofs.lemmas.Nat.{div-add-mod', div_below}
 use native.Mathlib.Nat.{mul-le-mul_right, suc-mul}
@@ -62,8 +63,10 @@ geometry_shape sizes shape meaning sectors serves scheme =
     let spare : shape.spare_bytes ≡ 16 * meaning.generations = omega (arith, serves.spare_bytes, scheme.generations) in
     λ i. record { blocks = shape.blocks; pages = shape.pages; main_bytes = shape.main_bytes; spare_bytes = spare i }
 
-pub is_moving : (sizes : Sizes) (meaning : Meaning) (live : LiveRecord) (page : ℕ) (die : DieState) (book : BookValue) (table : List (Option Entry)) (seq : ℕ) → Serves sizes die.shape → ServesScheme sizes meaning
-    → Decodes meaning → IsShaped die → IsTrue (geometry_of die.shape meaning (length table)) die.cells book table seq → seq < 2 ^ 62 → IsLive (geometry_of die.shape meaning (length table)) die.cells live
+pub is_moving : (sizes : Sizes) (meaning : Meaning) (live : LiveRecord) (page : ℕ) (die : DieState) (book : BookValue) (table : List (Option Entry)) (seq : ℕ) → Serves sizes die.shape
+    → ServesScheme sizes meaning
+    → Decodes meaning → IsShaped die → IsTrue (geometry_of die.shape meaning (length table)) die.cells book table seq → seq < 2 ^ 62
+    → IsLive (geometry_of die.shape meaning (length table)) die.cells live
     → (room : ℕ) × IsNextPage book page room → IsMoving (geometry_of die.shape meaning (length table)) meaning live page die book table seq
 is_moving sizes meaning live page die book table seq serves scheme decodes shaped tables fresh is_live next = record {
   shape = geometry_shape sizes die.shape meaning (length table) serves scheme;
@@ -108,7 +111,8 @@ entry_again place h seq =
 units_fit : (w s : ℕ) → w / s * s ≤ w
 units_fit w s = omega (arith, div-add-mod' w s)
 
-module _ (g : Geometry) (meaning : Meaning) (live : LiveRecord) (page : ℕ) (die : DieState) (book : BookValue) (table : List (Option Entry)) (seq : ℕ) (m : IsMoving g meaning live page die book table seq) where
+module _ (g : Geometry) (meaning : Meaning) (live : LiveRecord) (page : ℕ) (die : DieState) (book : BookValue) (table : List (Option Entry)) (seq : ℕ)
+    (m : IsMoving g meaning live page die book table seq) where
   abbrev block : ℕ
   block = m.next.1.block
 
@@ -160,7 +164,8 @@ module _ (g : Geometry) (meaning : Meaning) (live : LiveRecord) (page : ℕ) (di
           let of = unit_of_page g live.place.page u.1 in
           subst (λ (t : Bool). live.place.page + (if t then 1 else meaning.span) ≤ page_count g) (sym later)
           (subst (λ (n : ℕ). live.place.page + n ≤ page_count g) (sym m.span)
-          (room (block_of g live.place.page) (unit_at_page g live.place.page) g.span g.blocks g.pages live.place.page (units g) of.1 of.0 (units_fit g.pages g.span) (div_below live.place.page g.pages g.blocks (omega (arith, active_block.room)) page_in)))
+          (room (block_of g live.place.page) (unit_at_page g live.place.page) g.span g.blocks g.pages live.place.page (units g) of.1 of.0 (units_fit g.pages g.span)
+          (div_below live.place.page g.pages g.blocks (omega (arith, active_block.room)) page_in)))
 
   -- ---- after the put
 
@@ -168,7 +173,8 @@ module _ (g : Geometry) (meaning : Meaning) (live : LiveRecord) (page : ℕ) (di
     pub puts_next : PutsNext g m.next.1.block m.next.1.fill (again live.header seq) die.cells new.cells
     puts_next = next_put g block fill moved die new book table seq (subst (λ (q : ℕ). Puts (SaysSame meaning die live.place live.header page) 1 (first_slot q) moved die new) at_page p)
         m.shape kept.shape m.shaped shaped_new
-        m.tables m.next.1.active m.fresh refl (again_header live.header seq (spelled_from_read _ live.header (committed_header g die.cells live.place live.header committed)).0 m.fresh) m.is_live.sector (again_single live.header seq)
+        m.tables m.next.1.active m.fresh refl (again_header live.header seq
+        (spelled_from_read _ live.header (committed_header g die.cells live.place live.header committed)).0 m.fresh) m.is_live.sector (again_single live.header seq)
 
     -- what it keeps, in either outcome
     pub moving_holds : (table' : List (Option Entry)) (book' : BookValue) (seq' : ℕ) → seq' ≡ seq + 1 → Holds g (store die table book seq) (store new table' book' seq')
@@ -182,7 +188,8 @@ module _ (g : Geometry) (meaning : Meaning) (live : LiveRecord) (page : ℕ) (di
 
     -- the record says the same
     says_same : next_gate g m.next.1.block m.next.1.fill new.cells ≡ true
-        → said_by g meaning.decoding new.cells (Some (record { place = first_slot (next_page g m.next.1.block m.next.1.fill); header = again live.header seq })) ≡ said_by g meaning.decoding die.cells (live_record g die.cells live.header.sector)
+        → said_by g meaning.decoding new.cells (Some (record { place = first_slot (next_page g m.next.1.block m.next.1.fill); header = again live.header seq }))
+        ≡ said_by g meaning.decoding die.cells (live_record g die.cells live.header.sector)
     says_same charged =
         ap (λ (q : ℕ). said_by g meaning.decoding new.cells (Some (record { place = first_slot q; header = again live.header seq }))) (sym at_page)
         ∙ (put_says g meaning live.place live.header (again live.header seq) page die new p m.shape m.main_bytes m.span (sym gate_is ∙ charged) m.decodes (again_says live.header seq)
@@ -191,7 +198,8 @@ module _ (g : Geometry) (meaning : Meaning) (live : LiveRecord) (page : ℕ) (di
     -- all sectors stay, in either outcome
     pub moving_rows : stored g meaning.decoding new.cells ≡ stored g meaning.decoding die.cells
     moving_rows = elim (cases_Bool (next_gate g block fill new.cells)) [
-      | inl charged ↦ rows_same g meaning.decoding (first_slot (next_page g block fill)) moved die.cells new.cells (stores_from_gate g block fill moved die.cells new.cells puts_next meaning.decoding charged) (says_same charged)
+      | inl charged ↦ rows_same g meaning.decoding (first_slot (next_page g block fill)) moved die.cells new.cells
+          (stores_from_gate g block fill moved die.cells new.cells puts_next meaning.decoding charged) (says_same charged)
       | inr open' ↦ stored_before_gate g block fill moved die.cells new.cells puts_next meaning.decoding open'
     ]
 
@@ -213,7 +221,9 @@ module _ (g : Geometry) (meaning : Meaning) (live : LiveRecord) (page : ℕ) (di
         entry_moved = ap (λ (q : ℕ). entry_of (Some (record { place = first_slot q; header = again live.header seq }))) (sym at_page) ∙ (entry_again (first_slot page) live.header seq ∙ names)
 
         left : Recorded g meaning.decoding m.next.1.block m.next.1.fill (again live.header seq) (store die table book seq) (store new table' book' seq')
-        left = next_recorded g meaning.decoding block fill moved (store die table book seq) (store new table' book' seq') entry puts_next (gate_is ∙ gated) m.tables m.next.1.active refl placed_next entry_moved map_is book_is drawn
+        left =
+            next_recorded g meaning.decoding block fill moved (store die table book seq) (store new table' book' seq') entry puts_next
+            (gate_is ∙ gated) m.tables m.next.1.active refl placed_next entry_moved map_is book_is drawn
 
         former_is : former_in book (entry_at table live.header.sector) ≡ Some (block_of g live.place.page)
         former_is = ap (former_in book) (entry_true g die.cells book table seq m.tables live.header.sector m.is_live.sector ∙ ap entry_of m.is_live.is)

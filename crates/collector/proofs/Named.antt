@@ -33,8 +33,12 @@ entry_names x place e = at (says_zeros x.header) refl
     parts f = let p = and_parts _ _ f in let page = eqb-true x.place.page place.page p.0 in let slot = eqb-true x.place.slot place.slot p.1 in λ i. record { page = page i; slot = slot i }
 
     at : (t : Bool) → says_zeros x.header ≡ t → x.place ≡ place
-    at true z = parts (sym (ap (λ (t : Bool). names_slot (if t then Some (Entry.Zeros (record { page = x.place.page; slot = x.place.slot })) else Some (Entry.Held (record { page = x.place.page; slot = x.place.slot }))) place) z) ∙ e)
-    at false z = parts (sym (ap (λ (t : Bool). names_slot (if t then Some (Entry.Zeros (record { page = x.place.page; slot = x.place.slot })) else Some (Entry.Held (record { page = x.place.page; slot = x.place.slot }))) place) z) ∙ e)
+    at true z =
+        parts (sym (ap (λ (t : Bool). names_slot
+        (if t then Some (Entry.Zeros (record { page = x.place.page; slot = x.place.slot })) else Some (Entry.Held (record { page = x.place.page; slot = x.place.slot }))) place) z) ∙ e)
+    at false z =
+        parts (sym (ap (λ (t : Bool). names_slot
+        (if t then Some (Entry.Zeros (record { page = x.place.page; slot = x.place.slot })) else Some (Entry.Held (record { page = x.place.page; slot = x.place.slot }))) place) z) ∙ e)
 
 own_named : (x : Placed) → names_slot (entry_of (Some x)) x.place ≡ true
 own_named x = at (says_zeros x.header)
@@ -42,18 +46,21 @@ own_named x = at (says_zeros x.header)
     own : (x.place.page == x.place.page && x.place.slot == x.place.slot) ≡ true
     own = and_from (x.place.page == x.place.page) (x.place.slot == x.place.slot) (eq-eqb x.place.page x.place.page refl) (eq-eqb x.place.slot x.place.slot refl)
 
-    at : (t : Bool) → names_slot (if t then Some (Entry.Zeros (record { page = x.place.page; slot = x.place.slot })) else Some (Entry.Held (record { page = x.place.page; slot = x.place.slot }))) x.place ≡ true
+    at : (t : Bool) → names_slot (if t then Some (Entry.Zeros (record { page = x.place.page; slot = x.place.slot })) else Some
+        (Entry.Held (record { page = x.place.page; slot = x.place.slot }))) x.place ≡ true
     at true = own
     at false = own
 
 -- the live record that an entry names
-pub named_live : (g : Geometry) (cells : List (List ℕ)) (sector : ℕ) (place : Place) → names_slot (entry_at (live_map g cells) sector) place ≡ true → (x : Placed) × (live_record g cells sector ≡ Some x) × (x.place ≡ place)
+pub named_live : (g : Geometry) (cells : List (List ℕ)) (sector : ℕ) (place : Place) → names_slot (entry_at (live_map g cells) sector) place ≡ true
+    → (x : Placed) × (live_record g cells sector ≡ Some x) × (x.place ≡ place)
 named_live g cells sector place e = elim (cases_lt sector g.sectors) [
   | inr past ↦ absurd (false≢true (sym (ap (λ o. names_slot o place) (get_or_past (live_map g cells) sector None (omega (arith, past, live_map_long g cells)))) ∙ e))
   | inl within ↦ at (live_record g cells sector) refl (sym (ap (λ o. names_slot o place) (live_entry g cells sector within)) ∙ e)
 ]
   where
-    at : (o : Option Placed) → live_record g cells sector ≡ o → names_slot (entry_of (live_record g cells sector)) place ≡ true → (x : Placed) × (live_record g cells sector ≡ Some x) × (x.place ≡ place)
+    at : (o : Option Placed) → live_record g cells sector ≡ o → names_slot (entry_of (live_record g cells sector)) place ≡ true
+        → (x : Placed) × (live_record g cells sector ≡ Some x) × (x.place ≡ place)
     at None f n = absurd (false≢true (sym (ap (λ o. names_slot (entry_of o) place) f) ∙ n))
     at (Some x) f n = (x, f, entry_names x place (sym (ap (λ o. names_slot (entry_of o) place) f) ∙ n))
 

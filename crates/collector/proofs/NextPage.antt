@@ -70,8 +70,11 @@ unit_at_page g page = page % g.pages / g.span
 pub unit_of_page : (g : Geometry) (page : ℕ) → is_unit_page g page ≡ true → (unit_at_page g page < units g) × (page ≡ unit_page g (block_of g page) (unit_at_page g page))
 unit_of_page g page first =
     let parts = and_parts _ _ first in
-    let even : page % g.pages % g.span ≡ 0 = eqb-true _ _ parts.0 in
-    (ltb-true _ _ parts.1, whole page (page % g.pages) (page / g.pages * g.pages) (page % g.pages / g.span * g.span) (page % g.pages % g.span) (div-add-mod' page g.pages) (div-add-mod' (page % g.pages) g.span) even)
+    let even : page % g.pages % g.span ≡ 0 = eqb-true _ _ parts.0 in (
+      ltb-true _ _ parts.1,
+      whole page (page % g.pages) (page / g.pages * g.pages) (page % g.pages / g.span * g.span) (page % g.pages % g.span) (div-add-mod' page g.pages)
+          (div-add-mod' (page % g.pages) g.span) even,
+    )
   where
     whole : (n r b u s : ℕ) → b + r ≡ n → u + s ≡ r → s ≡ 0 → n ≡ b + u
     whole n r b u s e f z = omega arith

@@ -1,5 +1,6 @@
 -- The live records of a block are passed slot by slot: how a list of those that were passed grows.
-use Rattle.std.proofs.Common.{◌≡◌, ◌≢◌, ◌⊎◌, inl, inr, ℕ, ◌+◌, ◌*◌, ◌%◌, ◌<◌, ◌≤◌, Bool, true, false, cond, List, [], ◌∷◌, ◌++◌, length, ◌&&◌, ◌==◌, if◌then◌else◌, Option, Some, None, refl, sym, ap, ap₂, ◌∙◌, arith, subst, length-append, zero-add}
+use Rattle.std.proofs.Common.{◌≡◌, ◌≢◌, ◌⊎◌, inl, inr, ℕ, ◌+◌, ◌*◌, ◌%◌, ◌<◌, ◌≤◌, Bool, true, false, cond, List, [], ◌∷◌, ◌++◌, length, ◌&&◌, ◌==◌, if◌then◌else◌, Option, Some, None, refl, sym}
+use Rattle.std.proofs.Common.{ap, ap₂, ◌∙◌, arith, subst, length-append, zero-add}
 use Rattle.std.specs.List.{sum_by, range_with_len}
 use Rattle.std.proofs.lemmas.Bool.{cases_eq, cases_lt, and_left, and_parts, lt-ltb, le-ltb, eq-eqb, eqb-true, ne_eqb, false≢true}
 use Rattle.std.proofs.lemmas.List.{get_or_append_left, get_or_push}
@@ -43,7 +44,8 @@ pub page_is : (g : Geometry) (page block : ℕ) → block_of g page ≡ block �
 page_is g page block e = sym (div-add-mod' page g.pages) ∙ ap (λ (z : ℕ). z * g.pages + page % g.pages) e
 
 -- of the slots of a block, those with one number are one
-pub place_apart : (g : Geometry) (block : ℕ) (p q : Place) → p.slot < g.generations → q.slot < g.generations → block_of g p.page ≡ block → block_of g q.page ≡ block → number_of g p ≡ number_of g q → p ≡ q
+pub place_apart : (g : Geometry) (block : ℕ) (p q : Place) → p.slot < g.generations → q.slot < g.generations → block_of g p.page ≡ block → block_of g q.page ≡ block → number_of g p ≡ number_of g q
+    → p ≡ q
 place_apart g block p q in_p in_q here there same =
     let parts = same_number _ _ _ _ g.generations in_p in_q same in
     let page : p.page ≡ q.page = page_is g p.page block here ∙ (ap (λ (z : ℕ). block * g.pages + z) parts.0 ∙ sym (page_is g q.page block there)) in
@@ -80,7 +82,8 @@ nth_last records x i e = get_or_push records x nowhere i (sym e)
 -- ---- what is passed
 
 -- where no live record has this number, none more is passed
-passed_same : (g : Geometry) (block cursor : ℕ) (o : Option Placed) → ((y : Placed) → o ≡ Some y → block_of g y.place.page ≡ block → number_of g y.place ≢ cursor) → is_passed g block (cursor + 1) o ≡ is_passed g block cursor o
+passed_same : (g : Geometry) (block cursor : ℕ) (o : Option Placed) → ((y : Placed) → o ≡ Some y → block_of g y.place.page ≡ block → number_of g y.place ≢ cursor)
+    → is_passed g block (cursor + 1) o ≡ is_passed g block cursor o
 passed_same g block cursor None f = refl
 passed_same g block cursor (Some y) f = elim (cases_eq (block_of g y.place.page) block) [
   | inr apart ↦ and_left _ _ (ne_eqb _ _ apart) ∙ sym (and_left _ _ (ne_eqb _ _ apart))

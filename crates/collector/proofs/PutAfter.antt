@@ -54,19 +54,22 @@ bytes_puts meaning live page sector old mid new seq same shape bytes p got is =
 reads_for_bytes : (meaning : Meaning) (live : LiveRecord) → says_zeros live.header ≡ false → reads_of meaning live.place ≡ again_reads meaning live
 reads_for_bytes meaning live bytes = sym (ap (λ (t : Bool). if t then 0 else reads_of meaning live.place) bytes)
 
-pub bytes_passed : (meaning : Meaning) (live : LiveRecord) (old mid new : DieState) → says_zeros live.header ≡ false → Passed 0 (reads_of meaning live.place) old mid → Passed 2 0 mid new → Passed 2 (again_reads meaning live) old new
+pub bytes_passed : (meaning : Meaning) (live : LiveRecord) (old mid new : DieState) → says_zeros live.header ≡ false → Passed 0 (reads_of meaning live.place) old mid → Passed 2 0 mid new
+    → Passed 2 (again_reads meaning live) old new
 bytes_passed meaning live old mid new bytes first second =
     subst (λ (n : ℕ). Passed 2 n old new) (sum (reads_of meaning live.place) (again_reads meaning live) (reads_for_bytes meaning live bytes)) (passed_trans first second)
   where
     sum : (a b : ℕ) → a ≡ b → a + 0 ≡ b
     sum a b e = omega arith
 
-pub bytes_failed : (meaning : Meaning) (live : LiveRecord) (old mid new : DieState) → says_zeros live.header ≡ false → Passed 0 (reads_of meaning live.place) old mid → ChangeFailed 2 0 mid new → ChangeFailed 2 (again_reads meaning live) old new
+pub bytes_failed : (meaning : Meaning) (live : LiveRecord) (old mid new : DieState) → says_zeros live.header ≡ false → Passed 0 (reads_of meaning live.place) old mid → ChangeFailed 2 0 mid new
+    → ChangeFailed 2 (again_reads meaning live) old new
 bytes_failed meaning live old mid new bytes first second =
     subst (λ (n : ℕ). ChangeFailed 2 n old new) (sum (reads_of meaning live.place) (again_reads meaning live) (reads_for_bytes meaning live bytes)) (change_failed_after first second)
   where
     sum : (a b : ℕ) → a ≡ b → a + 0 ≡ b
     sum a b e = omega arith
 
-pub bytes_read_failed : (meaning : Meaning) (live : LiveRecord) (old new : DieState) → says_zeros live.header ≡ false → ReadFailed 0 (reads_of meaning live.place) old new → ReadFailed 0 (again_reads meaning live) old new
+pub bytes_read_failed : (meaning : Meaning) (live : LiveRecord) (old new : DieState) → says_zeros live.header ≡ false → ReadFailed 0 (reads_of meaning live.place) old new
+    → ReadFailed 0 (again_reads meaning live) old new
 bytes_read_failed meaning live old new bytes failed = subst (λ (n : ℕ). ReadFailed 0 n old new) (reads_for_bytes meaning live bytes) failed

@@ -15,19 +15,22 @@ use Rattle.page_codec.proofs.Live.{live_same}
 use Rattle.page_codec.proofs.Changes.{ungated}
 
 -- behind its gate the record stands
-pub placed_there : (g : Geometry) (place : Place) (h : Header) (old new : List (List ℕ)) → PutsCells g place h old new → HoldsRecord g place h → is_gate_charged (spare_at g new place.page) place.slot ≡ true → record_in g new place ≡ Some h
+pub placed_there : (g : Geometry) (place : Place) (h : Header) (old new : List (List ℕ)) → PutsCells g place h old new → HoldsRecord g place h
+    → is_gate_charged (spare_at g new place.page) place.slot ≡ true → record_in g new place ≡ Some h
 unfolding record_in
 placed_there g place h old new p f charged =
     cond-true (may_hold g place) (below_sectors g (header_in g new place)) None f.may
     ∙ (ap (λ (word : List ℕ). below_sectors g (header_of word))
-    (ap (λ (row : List ℕ). word_at (drop g.main_bytes row) place.slot) (p.whole charged place.page) ∙ (ap (λ (spare : List ℕ). word_at spare place.slot) p.record_there ∙ record_word (spare_at g old place.page) place.slot h p.room))
+    (ap (λ (row : List ℕ). word_at (drop g.main_bytes row) place.slot) (p.whole charged place.page)
+    ∙ (ap (λ (spare : List ℕ). word_at spare place.slot) p.record_there ∙ record_word (spare_at g old place.page) place.slot h p.room))
     ∙ (ap (below_sectors g) (read_spelled h f.header) ∙ ap (λ (t : Bool). if t then Some h else None) (lt-ltb h.sector g.sectors f.sector)))
 
 and_false : (b : Bool) → (b && false) ≡ false
 and_false true = refl
 and_false false = refl
 
-copy_waits : (g : Geometry) (place : Place) (h : Header) (cells : List (List ℕ)) → record_in g cells place ≡ Some h → is_copy h ≡ true → is_sealed g cells (block_of g place.page) ≡ false → committed_in g cells place ≡ None
+copy_waits : (g : Geometry) (place : Place) (h : Header) (cells : List (List ℕ)) → record_in g cells place ≡ Some h → is_copy h ≡ true → is_sealed g cells (block_of g place.page) ≡ false
+    → committed_in g cells place ≡ None
 unfolding committed_in is_committed
 copy_waits g place h cells there copy unsealed =
     ap (if_committed g cells place) there
@@ -38,7 +41,8 @@ pub copy_keeps_live : (g : Geometry) (place : Place) (h : Header) (old new : Lis
     → is_gate_charged (spare_at g old place.page) place.slot ≡ false → is_sealed g old (block_of g place.page) ≡ false → (sector : ℕ) → live_record g new sector ≡ live_record g old sector
 copy_keeps_live g place h old new p f copy before unsealed = live_same g old new (λ other. elim (other_committed g place h old new p other) [
   | inr kept ↦ kept
-  | inl same ↦ subst (λ (q : Place). committed_in g new q ≡ committed_in g old q) (sym same) (after (cases_Bool (is_gate_charged (spare_at g new place.page) place.slot)) ∙ sym (ungated g old place before))
+  | inl same ↦ subst (λ (q : Place). committed_in g new q ≡ committed_in g old q) (sym same)
+      (after (cases_Bool (is_gate_charged (spare_at g new place.page) place.slot)) ∙ sym (ungated g old place before))
 ])
   where
     after : (is_gate_charged (spare_at g new place.page) place.slot ≡ true) ⊎ (is_gate_charged (spare_at g new place.page) place.slot ≡ false) → committed_in g new place ≡ None

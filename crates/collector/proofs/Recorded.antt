@@ -28,7 +28,8 @@ pub after_active : (v : BookValue) (b f : ℕ) (former : Option ℕ) → state_a
 after_active v b f former active = ap (λ (s : State). if is_active s then filled (recorded v b former) b else recorded v b former) active
 
 -- an entry for the next page names the Active block
-pub in_block : (g : Geometry) (block fill : ℕ) (v : BookValue) (entry : Entry) → v.pages ≡ g.pages → fill < g.pages → place_of entry ≡ record { page = next_page g block fill; slot = 0 } → block_in v entry ≡ block
+pub in_block : (g : Geometry) (block fill : ℕ) (v : BookValue) (entry : Entry) → v.pages ≡ g.pages → fill < g.pages → place_of entry ≡ record { page = next_page g block fill; slot = 0 }
+    → block_in v entry ≡ block
 in_block g block fill v entry pages room placed =
     ap (λ (x : Place2). x.page / v.pages) placed ∙ (ap (λ (n : ℕ). next_page g block fill / n) pages ∙ block_of_next g block fill room)
 
@@ -52,7 +53,8 @@ pub record Recorded (g : Geometry) (d : Decoding) (block fill : ℕ) (h : Header
   pub tables : IsTrueStore g new
 
 module _ (g : Geometry) (block fill : ℕ) (h : Header) (old new : List (List ℕ)) (p : PutsNext g block fill h old new) (book : BookValue) (table : List (Option Entry)) (seq : ℕ)
-    (t : IsTrue g old book table seq) (active : state_at book block ≡ Active fill) (sectors : length table ≡ g.sectors) (entry : Entry) (placed : place_of entry ≡ record { page = next_page g block fill; slot = 0 }) where
+    (t : IsTrue g old book table seq) (active : state_at book block ≡ Active fill) (sectors : length table ≡ g.sectors) (entry : Entry)
+    (placed : place_of entry ≡ record { page = next_page g block fill; slot = 0 }) where
   pub next_may_record : MayRecord book table h.sector entry
   next_may_record = record {
     sector_in = omega (arith, p.sector);
@@ -73,7 +75,8 @@ module _ (g : Geometry) (block fill : ℕ) (h : Header) (old new : List (List �
       few below = omega (arith, mul-le g.blocks g.pages 1024 128 (omega (arith, t.sizes.blocks, t.kept.few_blocks)) (omega (arith, t.sizes.pages, t.kept.few_pages)))
 
 -- The record effect after the gate of a record on the Active block's next page.
-pub next_recorded : (g : Geometry) (d : Decoding) (block fill : ℕ) (h : Header) (old new : Store) (entry : Entry) → PutsNext g block fill h old.die.cells new.die.cells → next_gate g block fill new.die.cells ≡ true
+pub next_recorded : (g : Geometry) (d : Decoding) (block fill : ℕ) (h : Header) (old new : Store) (entry : Entry) → PutsNext g block fill h old.die.cells new.die.cells
+    → next_gate g block fill new.die.cells ≡ true
     → IsTrueStore g old → state_at old.book block ≡ Active fill → h.seq ≡ old.seq
     → place_of entry ≡ record { page = next_page g block fill; slot = 0 } → entry_of (Some (record { place = first_slot (next_page g block fill); header = h })) ≡ Some entry
     → new.table ≡ slice_set old.table h.sector (Some entry) → new.book ≡ after_record old.book (block_in old.book entry) (former_in old.book (entry_at old.table h.sector)) → new.seq ≡ old.seq + 1

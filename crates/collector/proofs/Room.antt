@@ -19,7 +19,8 @@ unfolding live_record
 live_sector g cells sector x e = (of_records g cells sector x (newest_some (records_of g cells sector) x e).one).1
 
 -- .. and stands in a slot of the die
-pub live_within : (g : Geometry) (cells : List (List ℕ)) (sector : ℕ) (x : Placed) → 1 ≤ g.generations → live_record g cells sector ≡ Some x → (x.place.page < page_count g) × (x.place.slot < g.generations)
+pub live_within : (g : Geometry) (cells : List (List ℕ)) (sector : ℕ) (x : Placed) → 1 ≤ g.generations → live_record g cells sector ≡ Some x
+    → (x.place.page < page_count g) × (x.place.slot < g.generations)
 live_within g cells sector x one e = holds_within g x.place one (committed_holds g cells x.place x.header (live_counts g cells sector x e))
 
 -- a place's number within its block, slot by slot

@@ -1,5 +1,6 @@
 -- What a put of a record makes of the stored sectors, one row each.
-use Rattle.std.proofs.Common.{◌≡◌, ◌≢◌, ◌⊎◌, inl, inr, ℕ, ◌<◌, true, false, List, [], take, length, map, slice_set, slice_index_or, if◌then◌else◌, ◌==◌, Some, sym, ap, ◌∙◌, arith, get_or-set_same, get_or-set_other, length-set}
+use Rattle.std.proofs.Common.{◌≡◌, ◌≢◌, ◌⊎◌, inl, inr, ℕ, ◌<◌, true, false, List, [], take, length, map, slice_set, slice_index_or, if◌then◌else◌, ◌==◌, Some, sym, ap, ◌∙◌, arith}
+use Rattle.std.proofs.Common.{get_or-set_same, get_or-set_other, length-set}
 use Rattle.std.specs.List.{range_with_len}
 use Rattle.std.proofs.lemmas.Bool.{cases_eq}
 use Rattle.std.proofs.lemmas.List.{same_lists, get_or_default}
@@ -36,7 +37,8 @@ rows_after g d place h old new s within = same_lists (stored g d new) (slice_set
     long : length (slice_set (stored g d old) h.sector (said_by g d new (Some (record { place = place; header = h })))) ≡ g.sectors
     long = length-set (stored g d old) h.sector _ ∙ rows_long g d old
 
-    at : (k : ℕ) → k < g.sectors → (k ≡ h.sector) ⊎ (k ≢ h.sector) → slice_index_or (stored g d new) k [] ≡ slice_index_or (slice_set (stored g d old) h.sector (said_by g d new (Some (record { place = place; header = h })))) k []
+    at : (k : ℕ) → k < g.sectors → (k ≡ h.sector) ⊎ (k ≢ h.sector)
+        → slice_index_or (stored g d new) k [] ≡ slice_index_or (slice_set (stored g d old) h.sector (said_by g d new (Some (record { place = place; header = h })))) k []
     at k below (inl same) =
         ap (λ (n : ℕ). slice_index_or (stored g d new) n []) same
         ∙ (row_of g d new h.sector within ∙ (s.own
@@ -78,6 +80,7 @@ first_says g meaning page h sector old new p gated bytes decodes is kind =
     ((λ i. meaning.decoding.first_gives (take (sym bytes i) (p.whole gated page i)) sector) ∙ p.content)
 
 -- a record of zeros says zeros
-pub zeros_say : (g : Geometry) (d : Decoding) (cells : List (List ℕ)) (place : Place) (h : Header) → says_zeros h ≡ true → said_by g d cells (Some (record { place = place; header = h })) ≡ zero_sector g
+pub zeros_say : (g : Geometry) (d : Decoding) (cells : List (List ℕ)) (place : Place) (h : Header) → says_zeros h ≡ true
+    → said_by g d cells (Some (record { place = place; header = h })) ≡ zero_sector g
 zeros_say g d cells place h kind =
     ap (λ t. if t then zero_sector g else (if place.slot == 0 then d.first (main_at g cells place.page) else d.second (unit_at g cells place.page))) kind

@@ -88,7 +88,8 @@ module _ (g : Geometry) (meaning : Meaning) (victim spare : ℕ) (start now : St
     | inl unmarked ↦ b.none_active block (subst (λ (v : BookValue). IsActive v block) unmarked.0 active)
     | inr marked ↦ (let here : IsActive (with_state start.book spare (Spare false)) block = subst (λ (v : BookValue). IsActive v block) marked active in
         elim (cases_eq block spare) [
-          | inl same ↦ false≢true (sym (ap is_active (ap (state_at (with_state start.book spare (Spare false))) same ∙ state_here start.book spare (Spare false) (omega (arith, b.spare_there, b.tables.sizes.blocks)))) ∙ here)
+          | inl same ↦ false≢true (sym (ap is_active
+              (ap (state_at (with_state start.book spare (Spare false))) same ∙ state_here start.book spare (Spare false) (omega (arith, b.spare_there, b.tables.sizes.blocks)))) ∙ here)
           | inr other ↦ b.none_active block (sym (ap is_active (state_there start.book spare block (Spare false) other)) ∙ here)
         ])
   ]
@@ -102,7 +103,8 @@ module _ (g : Geometry) (meaning : Meaning) (victim spare : ℕ) (start now : St
 
   -- ---- the seal is charged
 
-  module _ (new : DieState) (only : OnlyPage (spare * g.pages) now.die new) (here : page_of new (spare * g.pages) ≡ charge (page_of now.die (spare * g.pages)) (seal_cell_of now.die.shape.main_bytes)) where
+  module _ (new : DieState) (only : OnlyPage (spare * g.pages) now.die new)
+      (here : page_of new (spare * g.pages) ≡ charge (page_of now.die (spare * g.pages)) (seal_cell_of now.die.shape.main_bytes)) where
     here_g : page_of new (spare * g.pages) ≡ with_charged (page_of now.die (spare * g.pages)) (seal_cell_of g.main_bytes)
     here_g = here ∙ ap (λ (s : Shape). with_charged (page_of now.die (spare * g.pages)) (seal_cell_of s.main_bytes)) shape_now
 
@@ -206,7 +208,8 @@ module _ (g : Geometry) (meaning : Meaning) (victim spare : ℕ) (start now : St
 
   -- ---- the seal is not charged
 
-  module _ (new : DieState) (shaped_new : IsShaped new) (only : OnlyPage (spare * g.pages) now.die new) (here : page_of new (spare * g.pages) ≡ page_of now.die (spare * g.pages)) (kept : Kept now.die new) where
+  module _ (new : DieState) (shaped_new : IsShaped new) (only : OnlyPage (spare * g.pages) now.die new) (here : page_of new (spare * g.pages) ≡ page_of now.die (spare * g.pages))
+      (kept : Kept now.die new) where
     same_cells : new.cells ≡ now.die.cells
     same_cells = ext_get_or [] new.cells now.die.cells
         ((has_shape g new (kept.shape ∙ shape_now) shaped_new).pages ∙ sym (has_shape g now.die shape_now shaped).pages)

@@ -1,5 +1,6 @@
 -- The search for the first record that the map names, slot by slot on each page.
-use Rattle.std.proofs.Common.{◌≡◌, ◌≢◌, ◌⊎◌, inl, inr, ℕ, zero, suc, ◌+◌, ◌-◌, ◌<◌, ◌≤◌, Bool, true, false, List, drop, ◌&&◌, nat_lt, length, if◌then◌else◌, Option, Some, None, refl, sym, ap, ◌∙◌, arith, subst}
+use Rattle.std.proofs.Common.{◌≡◌, ◌≢◌, ◌⊎◌, inl, inr, ℕ, zero, suc, ◌+◌, ◌-◌, ◌<◌, ◌≤◌, Bool, true, false, List, drop, ◌&&◌, nat_lt, length, if◌then◌else◌, Option, Some, None, refl, sym, ap}
+use Rattle.std.proofs.Common.{◌∙◌, arith, subst}
 use Rattle.std.specs.Option.{option_or}
 use Rattle.std.proofs.lemmas.Bool.{cases_eq, cases_lt, eq-eqb, ne_eqb}
 use Rattle.std.proofs.lemmas.Option.{same_Some, none-some}
@@ -62,7 +63,9 @@ pub none_seen : (table : List (Option Entry)) (bytes generations page : ℕ) (di
 none_seen table bytes generations page die few e slot within = at slot within
   where
     rest : Option LiveRecord
-    rest = option_or (named_record table (slot_of page 1) (seen_page bytes generations (page_of die page)).second.header) (named_record table (slot_of page 2) (seen_page bytes generations (page_of die page)).third.header)
+    rest =
+        option_or (named_record table (slot_of page 1) (seen_page bytes generations (page_of die page)).second.header)
+        (named_record table (slot_of page 2) (seen_page bytes generations (page_of die page)).third.header)
 
     third : (generations : ℕ) → 2 < generations → generations ≤ 3 → generations ≡ 3
     third n low high = omega arith
@@ -105,7 +108,8 @@ one_seen table bytes generations page die live two few e = elim (either_some _ _
     one_is : (slot : ℕ) → slot ≢ 0 → slot < 2 → slot ≡ 1
     one_is slot some h = omega arith
 
-    made : (slot : ℕ) → slot < generations → named_in table bytes die (slot_of page slot) ≡ Some live → ((s : ℕ) → s < slot → named_in table bytes die (slot_of page s) ≡ None) → IsFirstOn table bytes generations page die live
+    made : (slot : ℕ) → slot < generations → named_in table bytes die (slot_of page slot) ≡ Some live → ((s : ℕ) → s < slot → named_in table bytes die (slot_of page s) ≡ None)
+        → IsFirstOn table bytes generations page die live
     made slot within named before =
         let here : live.place ≡ slot_of page slot = (named_place table (slot_of page slot) _ live named).0 in
         let slot_is : live.place.slot ≡ slot = ap (λ (p : Place). p.slot) here in
@@ -135,7 +139,8 @@ searched_none table sizes die from = record {
 }
 
 -- the first record on a page, where none stands before it
-pub first_found : (table : List (Option Entry)) (sizes : Sizes) (old die : DieState) (from pages page : ℕ) (live : LiveRecord) → Searched table sizes old die from page → from ≤ page → page < from + pages
+pub first_found : (table : List (Option Entry)) (sizes : Sizes) (old die : DieState) (from pages page : ℕ) (live : LiveRecord) → Searched table sizes old die from page → from ≤ page
+    → page < from + pages
     → IsFirstOn table sizes.page_bytes sizes.generations page die live → IsFirstNamed table sizes old from pages live
 first_found table sizes old die from pages page live s low high f = record {
   low = omega (arith, f.page_is);
@@ -162,12 +167,14 @@ none_found table sizes old die from page s none place low high within = elim (ca
 ]
 
 -- some page has one
-pub some_found : (table : List (Option Entry)) (sizes : Sizes) (old die : DieState) (from pages page : ℕ) → Searched table sizes old die from page → from + pages ≤ page → HasNamed table sizes old from pages → ⊥
+pub some_found : (table : List (Option Entry)) (sizes : Sizes) (old die : DieState) (from pages page : ℕ) → Searched table sizes old die from page → from + pages ≤ page
+    → HasNamed table sizes old from pages → ⊥
 some_found table sizes old die from pages page s past has = none-some has.live (sym (s.none has.live.place has.low (omega (arith, has.high)) has.slot) ∙ has.named)
 
 -- what a scan of the page says, in the sizes that the search began with
 pub seen_of : (table : List (Option Entry)) (sizes sizes' : Sizes) (page : ℕ) (die : DieState) (seen : Seen) (o : Option LiveRecord) → sizes' ≡ sizes
-    → seen ≡ seen_page sizes'.page_bytes sizes'.generations (page_of die page) → first_seen table page seen ≡ o → first_seen table page (seen_page sizes.page_bytes sizes.generations (page_of die page)) ≡ o
+    → seen ≡ seen_page sizes'.page_bytes sizes'.generations (page_of die page) → first_seen table page seen ≡ o
+    → first_seen table page (seen_page sizes.page_bytes sizes.generations (page_of die page)) ≡ o
 seen_of table sizes sizes' page die seen o same is e =
     ap (first_seen table page) (sym (is ∙ ap (λ (w : Sizes). seen_page w.page_bytes w.generations (page_of die page)) same)) ∙ e
 
@@ -176,7 +183,8 @@ none_is None never = refl
 none_is (Some live) never = absurd (never live refl)
 
 pub searched_more : (table : List (Option Entry)) (sizes : Sizes) (old die new : DieState) (from page : ℕ) → from ≤ page → sizes.generations ≤ 3 → Searched table sizes old die from page
-    → SameCells die new → Kept die new → Passed 0 1 die new → first_seen table page (seen_page sizes.page_bytes sizes.generations (page_of die page)) ≡ None → Searched table sizes old new from (page + 1)
+    → SameCells die new → Kept die new → Passed 0 1 die new → first_seen table page (seen_page sizes.page_bytes sizes.generations (page_of die page)) ≡ None
+    → Searched table sizes old new from (page + 1)
 searched_more table sizes old die new from page low few s same kept passed none = record {
   same_cells = record { cells = same.cells ∙ s.same_cells.cells; erases = same.erases ∙ s.same_cells.erases };
   kept = kept_trans s.kept kept;
@@ -196,5 +204,6 @@ searched_failed table sizes old die new from pages page low s failed has =
       | inr h ↦ h
     ]
 
-pub searched_passed : (table : List (Option Entry)) (sizes : Sizes) (old die new : DieState) (from page last : ℕ) → from ≤ page → last ≡ page → Searched table sizes old die from page → Passed 0 1 die new → Passed 0 (last + 1 - from) old new
+pub searched_passed : (table : List (Option Entry)) (sizes : Sizes) (old die new : DieState) (from page last : ℕ) → from ≤ page → last ≡ page → Searched table sizes old die from page
+    → Passed 0 1 die new → Passed 0 (last + 1 - from) old new
 searched_passed table sizes old die new from page last low same s passed = subst (λ (n : ℕ). Passed 0 n old new) (omega arith) (passed_trans s.passed passed)

@@ -30,12 +30,15 @@ use Rattle.collector.proofs.Sealing.{Seals, one_each, moved, others_live, header
 use Rattle.collector.proofs.States.{state_stays, unit_in_block}
 
 -- the spare's mark before the seal does not matter
-pub settled_again : (v : BookValue) (victim spare n : ℕ) (marked : Bool) → spare < length v.states → is_closed (state_at v spare) ≡ false → settled (with_state v spare (Spare marked)) victim spare n ≡ settled v victim spare n
-settled_again v victim spare n marked within open_block = ap (λ (w : BookValue). with_state (with_live (with_live w spare n) victim 0) victim (Spare false)) (state_twice v spare (Spare marked) (Active n) within open_block refl refl)
+pub settled_again : (v : BookValue) (victim spare n : ℕ) (marked : Bool) → spare < length v.states → is_closed (state_at v spare) ≡ false
+    → settled (with_state v spare (Spare marked)) victim spare n ≡ settled v victim spare n
+settled_again v victim spare n marked within open_block =
+    ap (λ (w : BookValue). with_state (with_live (with_live w spare n) victim 0) victim (Spare false)) (state_twice v spare (Spare marked) (Active n) within open_block refl refl)
 
 -- ---- the book
 
-module _ (book : BookValue) (victim spare n : ℕ) (apart : victim ≢ spare) (in_victim : victim < length book.states) (in_spare : spare < length book.states) (counts : length book.live ≡ length book.states) where
+module _ (book : BookValue) (victim spare n : ℕ) (apart : victim ≢ spare) (in_victim : victim < length book.states) (in_spare : spare < length book.states)
+    (counts : length book.live ≡ length book.states) where
   active : BookValue
   active = with_state book spare (Active n)
 
@@ -46,16 +49,19 @@ module _ (book : BookValue) (victim spare n : ℕ) (apart : victim ≢ spare) (i
   settled_spare = state_there (with_live (with_live (with_state book spare (Active n)) spare n) victim 0) victim spare (Spare false) (λ e. apart (sym e)) ∙ state_here book spare (Active n) in_spare
 
   pub settled_other : (block : ℕ) → block ≢ victim → block ≢ spare → state_at (settled book victim spare n) block ≡ state_at book block
-  settled_other block no_victim no_spare = state_there (with_live (with_live (with_state book spare (Active n)) spare n) victim 0) victim block (Spare false) no_victim ∙ state_there book spare block (Active n) no_spare
+  settled_other block no_victim no_spare =
+      state_there (with_live (with_live (with_state book spare (Active n)) spare n) victim 0) victim block (Spare false) no_victim ∙ state_there book spare block (Active n) no_spare
 
   pub live_of_victim : live_at (settled book victim spare n) victim ≡ 0
   live_of_victim = live_here (with_live (with_state book spare (Active n)) spare n) victim 0 (omega (arith, in_victim, counts, length-set book.live spare n))
 
   pub live_of_spare : live_at (settled book victim spare n) spare ≡ n
-  live_of_spare = live_there (with_live (with_state book spare (Active n)) spare n) victim spare 0 (λ e. apart (sym e)) ∙ live_here (with_state book spare (Active n)) spare n (omega (arith, in_spare, counts))
+  live_of_spare =
+      live_there (with_live (with_state book spare (Active n)) spare n) victim spare 0 (λ e. apart (sym e)) ∙ live_here (with_state book spare (Active n)) spare n (omega (arith, in_spare, counts))
 
   pub live_of_other : (block : ℕ) → block ≢ victim → block ≢ spare → live_at (settled book victim spare n) block ≡ live_at book block
-  live_of_other block no_victim no_spare = live_there (with_live (with_state book spare (Active n)) spare n) victim block 0 no_victim ∙ live_there (with_state book spare (Active n)) spare block n no_spare
+  live_of_other block no_victim no_spare =
+      live_there (with_live (with_state book spare (Active n)) spare n) victim block 0 no_victim ∙ live_there (with_state book spare (Active n)) spare block n no_spare
 
   pub settled_one : IsSpare book spare → HasOneSpare book → HasOneSpare (settled book victim spare n)
   settled_one is (one, one_is, only) = (
@@ -184,13 +190,18 @@ module _ (g : Geometry) (d : Decoding) (victim spare : ℕ) (start now : Store) 
     entries = map_is;
     one_spare = settled_one start.book victim spare (length records) s.begun.apart in_victim in_spare s.begun.tables.kept.counts (spare_is g d victim spare start s.begun) s.begun.tables.one_spare;
     states = λ block within. elim (cases_eq block victim) [
-      | inl same ↦ subst (IsTrueState g new block) (sym (ap (state_at (settled start.book victim spare (length records))) same ∙ settled_victim start.book victim spare (length records) s.begun.apart in_victim in_spare s.begun.tables.kept.counts))
+      | inl same ↦ subst (IsTrueState g new block)
+          (sym (ap (state_at (settled start.book victim spare (length records))) same
+          ∙ settled_victim start.book victim spare (length records) s.begun.apart in_victim in_spare s.begun.tables.kept.counts))
           (subst (λ (v : ℕ). IsTrueSpare g new v false) (sym same)
           (record { free = victim_free g d victim spare start.seq start.die.cells now.die.cells new records s.seals; blank = λ e. absurd (false≢true e) }))
       | inr no_victim ↦ elim (cases_eq block spare) [
-        | inl same ↦ subst (IsTrueState g new block) (sym (ap (state_at (settled start.book victim spare (length records))) same ∙ settled_spare start.book victim spare (length records) s.begun.apart in_victim in_spare s.begun.tables.kept.counts))
+        | inl same ↦ subst (IsTrueState g new block)
+            (sym (ap (state_at (settled start.book victim spare (length records))) same
+            ∙ settled_spare start.book victim spare (length records) s.begun.apart in_victim in_spare s.begun.tables.kept.counts))
             (subst (λ (v : ℕ). IsTrueActive g new v (length records)) (sym same) spare_active)
-        | inr no_spare ↦ subst (IsTrueState g new block) (sym (settled_other start.book victim spare (length records) s.begun.apart in_victim in_spare s.begun.tables.kept.counts block no_victim no_spare))
+        | inr no_spare ↦ subst (IsTrueState g new block)
+            (sym (settled_other start.book victim spare (length records) s.begun.apart in_victim in_spare s.begun.tables.kept.counts block no_victim no_spare))
             (state_stays g start.die.cells new block (other_stays g d victim spare start.seq start.die.cells now.die.cells new records s.seals block no_spare no_victim)
             (state_at start.book block) (s.begun.tables.states block within))
       ]

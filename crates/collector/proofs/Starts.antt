@@ -41,7 +41,8 @@ blank_active g cells block blank pages = record {
 }
 
 -- Where no block is Active, a Clean block becomes Active with fill 0.
-pub opened_true : (g : Geometry) (cells : List (List ℕ)) (book : BookValue) (table : List (Option Entry)) (seq block : ℕ) → IsTrue g cells book table seq → state_at book block ≡ Clean → block < g.blocks → 0 < g.pages → NoneActive book
+pub opened_true : (g : Geometry) (cells : List (List ℕ)) (book : BookValue) (table : List (Option Entry)) (seq block : ℕ) → IsTrue g cells book table seq → state_at book block ≡ Clean
+    → block < g.blocks → 0 < g.pages → NoneActive book
     → IsTrue g cells (with_state book block (Active 0)) table seq
 opened_true g cells book table seq block t clean within pages inactive = record {
   live_counts = t.live_counts;
@@ -107,7 +108,8 @@ module _ (g : Geometry) (cells : List (List ℕ)) (blank : (page : ℕ) → is_b
   begins block (Spare marked) pages may = record { free = blank_count block; blank = λ _. blank_block (block * g.pages) g.pages }
 
   -- A book without live records and an empty map are true to a die with no charged cell.
-  pub blank_true : (book : BookValue) → IsValid book → HasSizes g book → HasOneSpare book → 0 < g.pages → ((block : ℕ) → live_at book block ≡ 0) → ((block : ℕ) → block < g.blocks → MayBegin (state_at book block))
+  pub blank_true : (book : BookValue) → IsValid book → HasSizes g book → HasOneSpare book → 0 < g.pages → ((block : ℕ) → live_at book block ≡ 0)
+      → ((block : ℕ) → block < g.blocks → MayBegin (state_at book block))
       → IsTrue g cells book (replicate g.sectors None) 1
   blank_true book valid sizes spare pages live may = record {
     live_counts = λ block within. live block ∙ sym (blank_count block);

@@ -1,5 +1,6 @@
 -- The turns of a collection: it begins, scans a page, passes a slot with or without a live record, or stops at a call that failed.
-use Rattle.std.proofs.Common.{◌≡◌, ◌≢◌, inl, inr, ℕ, ◌+◌, ◌*◌, ◌%◌, ◌<◌, ◌≤◌, true, List, [], ◌∷◌, ◌++◌, length, ◌==◌, if◌then◌else◌, slice_index_or, slice_set, Some, refl, sym, ap, ◌∙◌, subst, arith, get_or-set_same, get_or-set_other, add-zero, zero-add}
+use Rattle.std.proofs.Common.{◌≡◌, ◌≢◌, inl, inr, ℕ, ◌+◌, ◌*◌, ◌%◌, ◌<◌, ◌≤◌, true, List, [], ◌∷◌, ◌++◌, length, ◌==◌, if◌then◌else◌, slice_index_or, slice_set, Some, refl, sym, ap, ◌∙◌, subst}
+use Rattle.std.proofs.Common.{arith, get_or-set_same, get_or-set_other, add-zero, zero-add}
 use Rattle.std.proofs.lemmas.Bool.{cases_lt}
 use Rattle.std.proofs.lemmas.Nat.{mod_below}
 use Rattle.cell_die.specs.Cells.{page_at, is_blank}
@@ -36,7 +37,8 @@ module _ (g : Geometry) (meaning : Meaning) (victim spare : ℕ) (start : Store)
 
   -- at most the live records of the victim are copied
   pub few_copies : (now : Store) (cursor pages copies : ℕ) (moves : List Move) → Reached g meaning.decoding victim spare start now cursor pages copies moves → copies ≤ live_at start.book victim
-  few_copies now cursor pages copies moves r = omega (arith, r.copied, r.scanned.count, count_few g start.die.cells victim b.some_pages one_slot cursor, live_is g meaning.decoding victim spare start b)
+  few_copies now cursor pages copies moves r =
+      omega (arith, r.copied, r.scanned.count, count_few g start.die.cells victim b.some_pages one_slot cursor, live_is g meaning.decoding victim spare start b)
 
   blank_start : is_block_blank g start.die.cells spare ≡ true
   blank_start = true_spare.blank refl
@@ -49,9 +51,12 @@ module _ (g : Geometry) (meaning : Meaning) (victim spare : ℕ) (start : Store)
   taking_none : Taking g meaning.decoding spare start.seq start.die.cells start.die.cells []
   taking_none = record {
     others = λ page apart. refl;
-    unsealed = blank_seal g start.die.cells (spare * g.pages) (subst (λ (q : ℕ). is_blank (page_at start.die.cells q) ≡ true) (add-zero (spare * g.pages)) (blank_pages g start.die.cells spare blank_start 0 b.some_pages));
+    unsealed =
+        blank_seal g start.die.cells (spare * g.pages)
+        (subst (λ (q : ℕ). is_blank (page_at start.die.cells q) ≡ true) (add-zero (spare * g.pages)) (blank_pages g start.die.cells spare blank_start 0 b.some_pages));
     headers = λ place h here e. absurd (blank_header g start.die.cells place.page
-        (subst (λ (q : ℕ). is_blank (page_at start.die.cells q) ≡ true) (sym (page_is g place.page spare here)) (blank_pages g start.die.cells spare blank_start (place.page % g.pages) (mod_below place.page g.pages b.some_pages)))
+        (subst (λ (q : ℕ). is_blank (page_at start.die.cells q) ≡ true) (sym (page_is g place.page spare here))
+        (blank_pages g start.die.cells spare blank_start (place.page % g.pages) (mod_below place.page g.pages b.some_pages)))
         place.slot h e);
     copied = λ i h. absurd (omega arith);
     blank = λ i from within. blank_pages g start.die.cells spare blank_start i within;
@@ -123,7 +128,8 @@ module _ (g : Geometry) (meaning : Meaning) (victim spare : ℕ) (start : Store)
     passed = subst (λ (n : ℕ). Passed (2 * copies) (pages + n) start.die now.die) (sym (gets_skip g start.die.cells victim cursor none)) r.passed;
   }
 
-  module _ (now : Store) (cursor pages copies : ℕ) (moves : List Move) (r : Reached g meaning.decoding victim spare start now cursor pages copies moves) (x : Placed) (new : DieState) (after : BookValue) (next : ℕ)
+  module _ (now : Store) (cursor pages copies : ℕ) (moves : List Move) (r : Reached g meaning.decoding victim spare start now cursor pages copies moves) (x : Placed) (new : DieState)
+      (after : BookValue) (next : ℕ)
       (c : Copies g meaning victim spare start now cursor r.records x new after next) where
     reads_are : copy_reads meaning x.place x.header ≡ get_reads g (Some x)
     reads_are = ap (λ (n : ℕ). if says_zeros x.header then 0 else (if x.place.slot == 0 then 1 else n)) c.span

@@ -1,5 +1,6 @@
 -- After the gate of a record on the Active block's next page, the record effect makes the tables true again.
-use Rattle.std.proofs.Common.{◌≡◌, ◌≢◌, ◌⊎◌, inl, inr, ℕ, zero, suc, ◌+◌, ◌*◌, ◌/◌, ◌<◌, ◌≤◌, Bool, true, false, List, length, drop, slice_set, slice_index_or, ◌&&◌, ◌==◌, if◌then◌else◌, Option, Some, None, refl, sym, ap, ap₂, ◌∙◌, arith, subst, get_or-set_same, get_or-set_other, length-set}
+use Rattle.std.proofs.Common.{◌≡◌, ◌≢◌, ◌⊎◌, inl, inr, ℕ, zero, suc, ◌+◌, ◌*◌, ◌/◌, ◌<◌, ◌≤◌, Bool, true, false, List, length, drop, slice_set, slice_index_or, ◌&&◌, ◌==◌, if◌then◌else◌, Option}
+use Rattle.std.proofs.Common.{Some, None, refl, sym, ap, ap₂, ◌∙◌, arith, subst, get_or-set_same, get_or-set_other, length-set}
 use Rattle.std.specs.List.{range_with_len, list_all}
 use Rattle.std.proofs.lemmas.Bool.{cases_eq, cases_Bool, eqb-true, eq-eqb, ne_eqb}
 use Rattle.std.proofs.lemmas.List.{same_lists, get_or_default}
@@ -68,14 +69,16 @@ pub former_at : (g : Geometry) (v : BookValue) (o : Option Placed) (c : ℕ) →
 former_at g v None c pages = refl
 former_at g v (Some x) c pages = at (says_zeros x.header)
   where
-    at : (t : Bool) → one_in (former_in v (if t then Some (Zeros (record { page = x.place.page; slot = x.place.slot })) else Some (Held (record { page = x.place.page; slot = x.place.slot })))) c ≡ one_if (block_of g x.place.page == c)
+    at : (t : Bool) → one_in (former_in v (if t then Some (Zeros (record { page = x.place.page; slot = x.place.slot })) else Some (Held (record { page = x.place.page; slot = x.place.slot })))) c
+        ≡ one_if (block_of g x.place.page == c)
     at true = ap (λ (n : ℕ). one_at (x.place.page / n) c) pages
     at false = ap (λ (n : ℕ). one_at (x.place.page / n) c) pages
 
 pub former_some : (g : Geometry) (v : BookValue) (x : Placed) → v.pages ≡ g.pages → former_in v (entry_of (Some x)) ≡ Some (block_of g x.place.page)
 former_some g v x pages = at (says_zeros x.header)
   where
-    at : (t : Bool) → former_in v (if t then Some (Zeros (record { page = x.place.page; slot = x.place.slot })) else Some (Held (record { page = x.place.page; slot = x.place.slot }))) ≡ Some (block_of g x.place.page)
+    at : (t : Bool) → former_in v (if t then Some (Zeros (record { page = x.place.page; slot = x.place.slot })) else Some (Held (record { page = x.place.page; slot = x.place.slot })))
+        ≡ Some (block_of g x.place.page)
     at true = ap (λ (n : ℕ). Some (x.place.page / n)) pages
     at false = ap (λ (n : ℕ). Some (x.place.page / n)) pages
 
@@ -111,7 +114,8 @@ pub blank_stays : (g : Geometry) (old new : List (List ℕ)) (block : ℕ) → B
 blank_stays g old new block s = all_same (λ page. is_blank (page_at new page)) (λ page. is_blank (page_at old page)) (block * g.pages) g.pages (λ i h. ap is_blank (s.pages i h))
 
 -- a block without a live record still has none
-pub free_stays : (g : Geometry) (old new : List (List ℕ)) (block : ℕ) → ((sector : ℕ) → sector < g.sectors → stands_in g block (live_record g new sector) ≡ true → live_record g new sector ≡ live_record g old sector)
+pub free_stays : (g : Geometry) (old new : List (List ℕ)) (block : ℕ)
+    → ((sector : ℕ) → sector < g.sectors → stands_in g block (live_record g new sector) ≡ true → live_record g new sector ≡ live_record g old sector)
     → live_count g old block ≡ 0 → live_count g new block ≡ 0
 unfolding live_count
 free_stays g old new block live free = none_pass (λ sector. stands_in g block (live_record g new sector)) g.sectors (λ k h. elim (cases_Bool (stands_in g block (live_record g new k))) [
@@ -193,7 +197,8 @@ module _ (g : Geometry) (cells : List (List ℕ)) (book : BookValue) (table : Li
   entry_true sector within = ap (λ (map : List (Option Entry)). entry_at map sector) t.entries ∙ entry_live g cells sector within
 
   -- a block takes one live record more where one of its slots holds no committed record
-  pub room_true : (place : Place) (block : ℕ) → block_of g place.page ≡ block → block < g.blocks → may_hold g place ≡ true → committed_in g cells place ≡ None → live_at book block < book.generations * book.pages
+  pub room_true : (place : Place) (block : ℕ) → block_of g place.page ≡ block → block < g.blocks → may_hold g place ≡ true → committed_in g cells place ≡ None
+      → live_at book block < book.generations * book.pages
   room_true place block inside within may none =
       let count : live_at book block ≡ live_count g cells block = t.live_counts block within in
       let room : live_count g cells block < g.generations * g.pages = subst (λ (b : ℕ). live_count g cells b < g.generations * g.pages) inside (has_room g cells place some_slots may none) in
@@ -295,10 +300,14 @@ module _ (g : Geometry) (block fill : ℕ) (h : Header) (old new : List (List �
     live_after : (b : ℕ) → b < g.blocks → live_at effected b ≡ live_count g new b
     unfolding live_count
     live_after b within =
-        let stood : one_in former b ≡ one_if (stands_in g b (live_record g old h.sector)) = ap (λ (o : Option Entry). one_in (former_in book o) b) former_entry ∙ former_at g book (live_record g old h.sector) b t.sizes.pages in
-        let stands : one_if (stands_in g b (live_record g new h.sector)) ≡ one_at block b = ap (λ (o : Option Placed). one_if (stands_in g b o)) wins.live ∙ ap (λ (c : ℕ). one_at c b) (block_of_next g block fill p.active.room) in
+        let stood : one_in former b ≡ one_if (stands_in g b (live_record g old h.sector)) =
+        ap (λ (o : Option Entry). one_in (former_in book o) b) former_entry ∙ former_at g book (live_record g old h.sector) b t.sizes.pages in
+        let stands : one_if (stands_in g b (live_record g new h.sector)) ≡ one_at block b =
+        ap (λ (o : Option Placed). one_if (stands_in g b o)) wins.live ∙ ap (λ (c : ℕ). one_at c b) (block_of_next g block fill p.active.room) in
         let moved : live_count g new b + one_if (stands_in g b (live_record g old h.sector)) ≡ live_count g old b + one_if (stands_in g b (live_record g new h.sector))
-        = count_moves (λ s. stands_in g b (live_record g old s)) (λ s. stands_in g b (live_record g new s)) g.sectors h.sector p.sector (λ k below other. ap (stands_in g b) (sym (wins.others k other))) in
+        =
+        count_moves (λ s. stands_in g b (live_record g old s)) (λ s. stands_in g b (live_record g new s)) g.sectors h.sector p.sector
+        (λ k below other. ap (stands_in g b) (sym (wins.others k other))) in
         let effect : live_at counted b + one_in former b ≡ live_at book b + one_at block b = recorded_live book block former b t.kept block_within may_drop in
         let was : live_at book b ≡ live_count g old b = t.live_counts b within in
         omega arith

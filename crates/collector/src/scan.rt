@@ -97,10 +97,13 @@ fn copy_seen<D: Die, C: Scheme>(
     requires die { Serves work.old (D.state die.old).shape }
     requires scheme { ServesScheme work.old (C.meaning scheme.old) }
     requires small_sector { (C.meaning scheme.old).sector_bytes ≤ 512 }
-    requires stands { (start : Store) × StandsAt (D.state die.old).shape (C.meaning scheme.old) (length map.now) spare start (store (D.state die.old) map.now book.old seq.old) (first_slot page) copies moves.old }
+    requires stands { (start : Store) × StandsAt (D.state die.old).shape (C.meaning scheme.old) (length map.now) spare start (store (D.state die.old) map.now book.old seq.old)
+        (first_slot page) copies moves.old }
     requires seen { seen.now ≡ seen_page (D.state die.old).shape.main_bytes (C.meaning scheme.old).generations (page_of (D.state die.old) page) }
-    ensures ends { (start : Store) → StandsAt (D.state die.old).shape (C.meaning scheme.old) (length map.now) spare start (store (D.state die.old) map.now book.old seq.old) (first_slot page) copies moves.old
-        → EndsAt (D.state die.old).shape (C.meaning scheme.old) (length map.now) spare start (store (D.state die.new) map.now book.new seq.new) page (C.meaning scheme.old).generations moves.new result }
+    ensures ends { (start : Store) → StandsAt (D.state die.old).shape (C.meaning scheme.old) (length map.now) spare start (store (D.state die.old) map.now book.old seq.old)
+        (first_slot page) copies moves.old
+        → EndsAt (D.state die.old).shape (C.meaning scheme.old) (length map.now) spare start (store (D.state die.new) map.now book.new seq.new) page
+        (C.meaning scheme.old).generations moves.new result }
     ensures same_erases { (D.state die.new).erases ≡ (D.state die.old).erases }
     ensures kept { Kept (D.state die.old) (D.state die.new) }
     ensures same_scheme { C.meaning scheme.new ≡ C.meaning scheme.old }
@@ -180,7 +183,8 @@ fn copy_page<D: Die, C: Scheme>(
         (store (D.state die.old) map.now book.old seq.old) (first_slot page) (page % (D.state die.old).shape.pages) copies moves.old }
     ensures ends { (start : Store) → Stands (geometry_of (D.state die.old).shape (C.meaning scheme.old) (length map.now)) (C.meaning scheme.old) spare start
         (store (D.state die.old) map.now book.old seq.old) (first_slot page) (page % (D.state die.old).shape.pages) copies moves.old
-        → EndsAt (D.state die.old).shape (C.meaning scheme.old) (length map.now) spare start (store (D.state die.new) map.now book.new seq.new) page (C.meaning scheme.old).generations moves.new result }
+        → EndsAt (D.state die.old).shape (C.meaning scheme.old) (length map.now) spare start (store (D.state die.new) map.now book.new seq.new) page
+        (C.meaning scheme.old).generations moves.new result }
     ensures same_erases { (D.state die.new).erases ≡ (D.state die.old).erases }
     ensures kept { Kept (D.state die.old) (D.state die.new) }
     ensures same_scheme { C.meaning scheme.new ≡ C.meaning scheme.old }

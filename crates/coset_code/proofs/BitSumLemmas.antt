@@ -58,7 +58,8 @@ only_above columns c (suc n) h =
       | inl l ↦ xor_none (only c n) (get_or columns n 0) _ (only_other c n (λ e. omega arith)) ∙ only_above columns c n l
       | inr m ↦
           let same : n ≡ c = omega arith in
-          xor_once (only c n) (get_or columns n 0) _ (only_at c n same) ∙ ap (bit_xor (get_or columns n 0)) (only_below columns c n (omega arith)) ∙ xor_zero_r (get_or columns n 0) ∙ ap (λ k. get_or columns k 0) same
+          xor_once (only c n) (get_or columns n 0) _ (only_at c n same) ∙ ap (bit_xor (get_or columns n 0)) (only_below columns c n (omega arith)) ∙ xor_zero_r (get_or columns n 0)
+          ∙ ap (λ k. get_or columns k 0) same
     ]
 
 only_sum : (columns : List ℕ) (c : ℕ) → sum_bits columns (only c) (length columns) ≡ get_or columns c 0

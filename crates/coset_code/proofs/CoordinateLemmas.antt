@@ -21,7 +21,8 @@ pub record HasCoordinatesBelow (columns coords vectors : List ℕ) (n : ℕ) : T
   pub sums : (k : ℕ) → k < n → subset_sum (get_or coords k 0) vectors ≡ get_or columns k 0
   pub within : (k : ℕ) → k < n → get_or coords k 0 < 2 ^ length vectors
 
-pub coordinates_more : (columns coords vectors : List ℕ) (n x : ℕ) → HasCoordinatesBelow columns coords vectors n → n < length coords → subset_sum x vectors ≡ get_or columns n 0 → x < 2 ^ length vectors →
+pub coordinates_more : (columns coords vectors : List ℕ) (n x : ℕ) → HasCoordinatesBelow columns coords vectors n → n < length coords → subset_sum x vectors ≡ get_or columns n 0
+    → x < 2 ^ length vectors →
     HasCoordinatesBelow columns (set coords n x) vectors (n + 1)
 coordinates_more columns coords vectors n x c h e l = record {
   sums = λ k i. elim (cases_lt k n) [
@@ -38,7 +39,8 @@ coordinates_more columns coords vectors n x c h e l = record {
   ];
 }
 
-pub has_coordinates : (columns coords : List ℕ) (full : Family) → HasOffered columns [] (length columns) full → length coords ≡ length columns → HasCoordinatesBelow columns coords full.columns (length columns) → HasCoordinates columns coords full
+pub has_coordinates : (columns coords : List ℕ) (full : Family) → HasOffered columns [] (length columns) full → length coords ≡ length columns
+    → HasCoordinatesBelow columns coords full.columns (length columns) → HasCoordinates columns coords full
 has_coordinates columns coords full o len c = record {
   offered = o;
   coords_len = len;

@@ -1,5 +1,6 @@
 -- Cells that are separate from those below them are in the basis solution, whatever found them.
-use Rattle.std.proofs.Common.{◌≡◌, ℕ, zero, suc, ◌-◌, ◌^◌, ◌<◌, ◌≤◌, ◌⊎◌, Bool, true, false, nat_eq, List, [], ◌∷◌, ◌++◌, take, length, get_or, bit_xor, bit_and, sym, ◌∙◌, ap, subst, refl, inl, inr, arith}
+use Rattle.std.proofs.Common.{◌≡◌, ℕ, zero, suc, ◌-◌, ◌^◌, ◌<◌, ◌≤◌, ◌⊎◌, Bool, true, false, nat_eq, List, [], ◌∷◌, ◌++◌, take, length, get_or, bit_xor, bit_and, sym, ◌∙◌, ap, subst, refl, inl}
+use Rattle.std.proofs.Common.{inr, arith}
 use Rattle.std.specs.Int.{bit_at}
 use Rattle.std.specs.Int.Bits.{xor_comm, xor_zero_r, xor_lt}
 use Rattle.std.proofs.lemmas.Bool.{cases_lt, false_from_ne_true, false≢true}
@@ -33,7 +34,8 @@ kept_zero columns coords full s old f linear (suc n) x h z (inr sum) =
     let P : ℕ → Type 0 = IsFreeSum columns old n in
     let both : bit_xor (get_or columns n 0) (subset_sum x full.columns) ≡ subset_sum (bit_xor c x) full.columns =
     sym (subset_sum-xor c x full.columns ∙ ap (λ y. bit_xor y (subset_sum x full.columns)) (s.sums n)) in
-    let without : f (bit_xor c x) ≡ 0 = kept_zero columns coords full s old f linear n (bit_xor c x) (xor_lt (length full.columns) c x (s.within n) h) (λ k l. z k (omega arith)) (subst P both sum.1) in
+    let without : f (bit_xor c x) ≡ 0 =
+    kept_zero columns coords full s old f linear n (bit_xor c x) (xor_lt (length full.columns) c x (s.within n) h) (λ k l. z k (omega arith)) (subst P both sum.1) in
     let here : f c ≡ 0 = z n (omega arith) sum.0 in
     sym (ap (λ y. bit_xor y (f x)) here ∙ xor_comm 0 (f x) ∙ xor_zero_r (f x)) ∙ sym (linear.sum c x) ∙ without
 

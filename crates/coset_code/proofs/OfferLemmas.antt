@@ -31,7 +31,8 @@ offered_charged columns old n basis o e = record {
   spans = λ v h. elim (free_sum_more columns old n v h) [ inl f ↦ o.spans v f | inr f ↦ absurd (true≢false (sym e ∙ f.0)) ];
 }
 
-pub offered_spanned : (columns : List ℕ) (old : List Bool) (n : ℕ) (basis : Family) → HasOffered columns old n basis → IsSpanned basis.columns (get_or columns n 0) → HasOffered columns old (n + 1) basis
+pub offered_spanned : (columns : List ℕ) (old : List Bool) (n : ℕ) (basis : Family) → HasOffered columns old n basis → IsSpanned basis.columns (get_or columns n 0)
+    → HasOffered columns old (n + 1) basis
 offered_spanned columns old n basis o s = record {
   kept = o.kept;
   before = λ p h. omega (arith, o.before p h);

@@ -40,7 +40,8 @@ none_masked columns coords masked mask full s m old number wanted within e none 
     let c : ℕ = syndrome coords old in
     let P : ℕ → Type 0 = IsFreeSum columns old (length columns) in
     let sum : bit_xor number (syndrome columns old) ≡ subset_sum (bit_xor wanted c) full.columns =
-    ap (λ x. bit_xor x (syndrome columns old)) (sym e) ∙ ap (bit_xor (subset_sum wanted full.columns)) (sym (syndrome_columns columns coords full s old)) ∙ sym (subset_sum-xor wanted c full.columns) in
+    ap (λ x. bit_xor x (syndrome columns old)) (sym e) ∙ ap (bit_xor (subset_sum wanted full.columns)) (sym (syndrome_columns columns coords full s old))
+    ∙ sym (subset_sum-xor wanted c full.columns) in
     let len : length columns ≡ length masked = sym s.coords_len ∙ sym m.masked_len in
     let small : bit_xor wanted c < 2 ^ length full.columns = xor_lt (length full.columns) wanted c within (syndrome_within columns coords full s old) in
     none (subst (λ n. IsFreeSum masked old n (bit_and (bit_xor wanted c) mask)) len (masked_sum columns coords masked mask full s m old (length columns) (bit_xor wanted c) small (subst P sum h)))
@@ -73,7 +74,8 @@ left_masked columns coords masked mask full work old mid wanted set h =
     ∙ xor_twice a w in
     and_xor wanted (syndrome coords mid) mask ∙ ap (bit_xor w) mid_is ∙ xor_self w
 
-pub left_within : (columns coords : List ℕ) (full : Family) → HasCoordinates columns coords full → (wanted : ℕ) → wanted < 2 ^ length full.columns → (cells : List Bool) → bit_xor wanted (syndrome coords cells) < 2 ^ length full.columns
+pub left_within : (columns coords : List ℕ) (full : Family) → HasCoordinates columns coords full → (wanted : ℕ) → wanted < 2 ^ length full.columns → (cells : List Bool)
+    → bit_xor wanted (syndrome coords cells) < 2 ^ length full.columns
 left_within columns coords full s wanted h cells = xor_lt (length full.columns) wanted (syndrome coords cells) h (syndrome_within columns coords full s cells)
 
 bit_outside : (u m p : ℕ) → bit_and u m ≡ 0 → bit_at u p ≡ 1 → bit_at m p ≡ 0

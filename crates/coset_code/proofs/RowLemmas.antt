@@ -150,14 +150,16 @@ pub by_parts : (coords old : List ℕ) (r s t a b c d e f bit bit' u v w x y z :
     u ≡ bit * a → v ≡ bit * b → w ≡ bit * c → x ≡ bit' * d → y ≡ bit' * e → z ≡ bit' * f →
     IsSound coords old (bit_xor (bit_xor r u) x) (bit_xor (bit_xor s v) y) (bit_xor (bit_xor t w) z)
 by_parts coords old r s t a b c d e f bit bit' u v w x y z two two' p q o eu ev ew ex ey ez =
-    sound_same coords old _ _ _ _ _ _ (parts r a d u x bit bit' eu ex) (parts s b e v y bit bit' ev ey) (parts t c f w z bit bit' ew ez) (sound_parts coords old r s t a b c d e f bit bit' two two' p q o)
+    sound_same coords old _ _ _ _ _ _ (parts r a d u x bit bit' eu ex) (parts s b e v y bit bit' ev ey) (parts t c f w z bit bit' ew ez)
+    (sound_parts coords old r s t a b c d e f bit bit' two two' p q o)
 
 -- the same where the first words of the two rows are zero
 pub by_parts_second : (coords old : List ℕ) (r s t a b c d e f bit bit' v w y z : ℕ) → bit < 2 → bit' < 2 → IsSound coords old r s t → IsSound coords old a b c → IsSound coords old d e f →
     a ≡ 0 → d ≡ 0 → v ≡ bit * b → w ≡ bit * c → y ≡ bit' * e → z ≡ bit' * f →
     IsSound coords old r (bit_xor (bit_xor s v) y) (bit_xor (bit_xor t w) z)
 by_parts_second coords old r s t a b c d e f bit bit' v w y z two two' p q o none none' ev ew ey ez =
-    sound_same coords old _ _ _ _ _ _ (nothing (bit_xor r (bit * a)) d bit' none' ∙ nothing r a bit none) (parts s b e v y bit bit' ev ey) (parts t c f w z bit bit' ew ez) (sound_parts coords old r s t a b c d e f bit bit' two two' p q o)
+    sound_same coords old _ _ _ _ _ _ (nothing (bit_xor r (bit * a)) d bit' none' ∙ nothing r a bit none) (parts s b e v y bit bit' ev ey) (parts t c f w z bit bit' ew ez)
+    (sound_parts coords old r s t a b c d e f bit bit' two two' p q o)
 
 pub by_one_second : (coords old : List ℕ) (r s t a b c bit v w : ℕ) → bit < 2 → IsSound coords old r s t → IsSound coords old a b c → a ≡ 0 → v ≡ bit * b → w ≡ bit * c →
     IsSound coords old r (bit_xor s v) (bit_xor t w)
@@ -262,7 +264,8 @@ separate_third coords old a b c i s z y l h free = (
 pub bit_is : (n i : ℕ) → (bit_at n i ≡ 0) ⊎ (bit_at n i ≡ 1)
 bit_is n i = elim (cases_lt (bit_at n i) 1) [ inl l ↦ inl (omega arith) | inr m ↦ inr (omega (arith, bit_at-lt n i)) ]
 
-pub with_first : (coords old : List ℕ) (u v w new a b c : ℕ) → IsSound coords old a b c → ((i : ℕ) → bit_at new i ≡ 1 → bit_at u i ≡ 0 → IsLowestBit a i) → AreSeparate coords old u v w → AreSeparate coords old new v w
+pub with_first : (coords old : List ℕ) (u v w new a b c : ℕ) → IsSound coords old a b c → ((i : ℕ) → bit_at new i ≡ 1 → bit_at u i ≡ 0 → IsLowestBit a i) → AreSeparate coords old u v w
+    → AreSeparate coords old new v w
 with_first coords old u v w new a b c s l h = record {
   first_cells = λ i k one free. elim (bit_is u i) [
     | inl none ↦ separate_first coords old a b c i s (l i one none) k free
@@ -272,7 +275,8 @@ with_first coords old u v w new a b c s l h = record {
   third_cells = h.third_cells;
 }
 
-pub with_second : (coords old : List ℕ) (u v w new a b c : ℕ) → IsSound coords old a b c → a ≡ 0 → ((i : ℕ) → bit_at new i ≡ 1 → bit_at v i ≡ 0 → IsLowestBit b i) → AreSeparate coords old u v w → AreSeparate coords old u new w
+pub with_second : (coords old : List ℕ) (u v w new a b c : ℕ) → IsSound coords old a b c → a ≡ 0 → ((i : ℕ) → bit_at new i ≡ 1 → bit_at v i ≡ 0 → IsLowestBit b i) → AreSeparate coords old u v w
+    → AreSeparate coords old u new w
 with_second coords old u v w new a b c s z l h = record {
   first_cells = h.first_cells;
   second_cells = λ i k one free. elim (bit_is v i) [
@@ -282,7 +286,8 @@ with_second coords old u v w new a b c s z l h = record {
   third_cells = h.third_cells;
 }
 
-pub with_third : (coords old : List ℕ) (u v w new a b c : ℕ) → IsSound coords old a b c → a ≡ 0 → b ≡ 0 → ((i : ℕ) → bit_at new i ≡ 1 → bit_at w i ≡ 0 → IsLowestBit c i) → AreSeparate coords old u v w → AreSeparate coords old u v new
+pub with_third : (coords old : List ℕ) (u v w new a b c : ℕ) → IsSound coords old a b c → a ≡ 0 → b ≡ 0 → ((i : ℕ) → bit_at new i ≡ 1 → bit_at w i ≡ 0 → IsLowestBit c i)
+    → AreSeparate coords old u v w → AreSeparate coords old u v new
 with_third coords old u v w new a b c s z y l h = record {
   first_cells = h.first_cells;
   second_cells = h.second_cells;

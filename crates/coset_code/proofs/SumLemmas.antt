@@ -95,7 +95,8 @@ above_free_sum columns old new h (suc n) = by_cell (cell_at old n) (cell_at new 
         inr (e, subst P (sym (ap (bit_xor v) (sym (xor_assoc s v t) ∙ ap (λ x. bit_xor x t) (xor_comm s v) ∙ xor_assoc v s t) ∙ xor_twice v (bit_xor s t))) r)
 
 -- one cell more in the sum
-pub sum_below_more : (columns : List ℕ) (cells : List Bool) (n : ℕ) (b : Bool) → cell_at cells n ≡ b → sum_below columns cells (n + 1) ≡ bit_xor (cond b (get_or columns n 0) 0) (sum_below columns cells n)
+pub sum_below_more : (columns : List ℕ) (cells : List Bool) (n : ℕ) (b : Bool) → cell_at cells n ≡ b
+    → sum_below columns cells (n + 1) ≡ bit_xor (cond b (get_or columns n 0) 0) (sum_below columns cells n)
 unfolding sum_below
 sum_below_more columns cells n b e =
     let next : n + 1 ≡ suc n = omega arith in

@@ -67,7 +67,8 @@ masked_bit t o i b fits h free e = omega (arith, bit_at_and t (bit_not w64 o) i,
 
 pub turned_row : (columns coords : List ℕ) (full : Family) (table old : List ℕ) (p wanted : ℕ) → HasCoordinates columns coords full → IsTurned coords full table →
     ((k : ℕ) → get_or old k 0 < 2 ^ 64) → p < 128 → word_bit old p ≡ 1 → ((i : ℕ) → i < 63 → bit_at wanted i ≡ 0) →
-    IsSound coords old (bit_and (get_or table p 0) (bit_not w64 (get_or old 2 0))) (bit_and (get_or table (128 + p) 0) (bit_not w64 (get_or old 3 0))) (bit_or (bit_and (get_or table (256 + p) 0) (bit_not w64 (get_or old 4 0))) wanted)
+    IsSound coords old (bit_and (get_or table p 0) (bit_not w64 (get_or old 2 0))) (bit_and (get_or table (128 + p) 0) (bit_not w64 (get_or old 3 0)))
+    (bit_or (bit_and (get_or table (256 + p) 0) (bit_not w64 (get_or old 4 0))) wanted)
 turned_row columns coords full table old p wanted s t fits h charged none = (
   λ x. bit_at x p,
   record {
@@ -137,7 +138,8 @@ laid_above old new first second third len l i one = elim (place_of i) [
 ]
 
 -- a cell that is new is from 128 on, and separate from those below it
-pub laid_fresh : (coords old new : List ℕ) (first second third : ℕ) → length old ≡ 5 → length new ≡ 5 → AreSeparate coords old first second third → IsLaid old new first second (bit_and third (2 ^ 63 - 1)) →
+pub laid_fresh : (coords old new : List ℕ) (first second third : ℕ) → length old ≡ 5 → length new ≡ 5 → AreSeparate coords old first second third
+    → IsLaid old new first second (bit_and third (2 ^ 63 - 1)) →
     (i : ℕ) → word_bit old i ≡ 0 → word_bit new i ≡ 1 → (128 ≤ i) × IsSeparate coords old i
 laid_fresh coords old new first second third len len' s l i none one = elim (place_of i) [
   | low_0 h ↦ absurd (omega (arith, same_word old new 0 i l.word_0 h))
@@ -158,7 +160,8 @@ laid_fresh coords old new first second third len len' s l i none one = elim (pla
       let d : ℕ = i - 256 in
       let e : 256 + d ≡ i = omega arith in
       let m : d ≡ i % 64 = omega arith in
-      let both : bit_at (bit_and third (2 ^ 63 - 1)) d ≡ 1 = ap (bit_at (bit_and third (2 ^ 63 - 1))) m ∙ omega (arith, more_word old new 4 i (bit_and third (2 ^ 63 - 1)) l.word_4 h, bit_at-lt (bit_and third (2 ^ 63 - 1)) (i % 64)) in
+      let both : bit_at (bit_and third (2 ^ 63 - 1)) d ≡ 1 =
+      ap (bit_at (bit_and third (2 ^ 63 - 1))) m ∙ omega (arith, more_word old new 4 i (bit_and third (2 ^ 63 - 1)) l.word_4 h, bit_at-lt (bit_and third (2 ^ 63 - 1)) (i % 64)) in
       let small : d < 63 = elim (cases_lt d 63) [ inl k ↦ k | inr k ↦ absurd (omega (arith, bit_at_and third (2 ^ 63 - 1) d, bit_at_ones_above 63 d k)) ] in
       let at : bit_at third d ≡ 1 = omega (arith, bit_at_and third (2 ^ 63 - 1) d, bit_at-lt third d) in
       (omega arith, subst (IsSeparate coords old) e (s.third_cells d small at (ap (word_bit old) e ∙ none)))
@@ -172,7 +175,8 @@ row_by coords old a b c x y z u v w wanted e f g s =
     sound_same coords old _ _ _ _ _ _ (ap (λ m. bit_and m u) (sym e)) (ap (λ m. bit_and m v) (sym f)) (ap (λ m. bit_or (bit_and m w) wanted) (sym g)) s
 
 -- the first two words as one number
-pub bits_of_low : (words : List ℕ) → get_or words 0 0 < 2 ^ 64 → get_or words 1 0 < 2 ^ 64 → (i : ℕ) → i < 128 → bit_at (bit_or (get_or words 1 0 * 2 ^ 64 % 2 ^ 128) (get_or words 0 0)) i ≡ word_bit words i
+pub bits_of_low : (words : List ℕ) → get_or words 0 0 < 2 ^ 64 → get_or words 1 0 < 2 ^ 64 → (i : ℕ) → i < 128
+    → bit_at (bit_or (get_or words 1 0 * 2 ^ 64 % 2 ^ 128) (get_or words 0 0)) i ≡ word_bit words i
 bits_of_low words low high i below =
     let a : ℕ = get_or words 1 0 in
     let b : ℕ = get_or words 0 0 in

@@ -91,7 +91,8 @@ number_of_units units vectors message number n size len words u bits =
       | inr m ↦ sum.none i m ∙ sym (bits i ∙ ap (λ w. bit_at w (i % 64)) (get_or_past message (i / 64) 0 (omega arith)) ∙ bit_at-zero (i % 64))
     ])
 
-pub number_there : (k : ℕ) (message : List ℕ) → length message ≡ words_for k → 0 < k → k ≤ 128 → ((i : ℕ) → get_or message i 0 < 2 ^ 64) → (number : ℕ) × ((i : ℕ) → bit_at number i ≡ word_bit message i)
+pub number_there : (k : ℕ) (message : List ℕ) → length message ≡ words_for k → 0 < k → k ≤ 128 → ((i : ℕ) → get_or message i 0 < 2 ^ 64)
+    → (number : ℕ) × ((i : ℕ) → bit_at number i ≡ word_bit message i)
 number_there k message len some most fits = elim (cases_lt (length message) 2) [
   | inl l ↦ (get_or message 0 0, bits_of_one message (omega arith) (fits 0))
   | inr m ↦ (bit_or (get_or message 1 0 * 2 ^ 64 % 2 ^ 128) (get_or message 0 0), bits_of_two message (omega arith) (fits 0) (fits 1))

@@ -84,7 +84,8 @@ pub fn charge_set(basis: &Basis, set: u128, row: &mut [u64])
     requires set { set < 2 ^ length basis.now.columns }
     requires tags { (p : ℕ) → p < length basis.now.columns → slice_index basis.now.tags p < 64 * length row.old }
     requires tags_len { length basis.now.tags ≡ length basis.now.columns }
-    ensures charged { (columns : List ℕ) → IsFreeSet columns (cells_of (length columns) row.old) basis.now set → IsChargedSet columns (cells_of (length columns) row.old) (cells_of (length columns) row.new) basis.now set 0 }
+    ensures charged { (columns : List ℕ) → IsFreeSet columns (cells_of (length columns) row.old) basis.now set
+        → IsChargedSet columns (cells_of (length columns) row.old) (cells_of (length columns) row.new) basis.now set 0 }
     ensures others { (n : ℕ) → ((p : ℕ) → p < length basis.now.columns → slice_index basis.now.tags p < n) → (i : ℕ) → n ≤ i → word_bit row.new i ≡ word_bit row.old i }
 {
     let mut rest = set;

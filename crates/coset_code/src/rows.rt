@@ -237,7 +237,8 @@ fn with_lowest(word: u64, row: u64, odd: u64) -> u64
 /// The cells with the lowest bit of a row where that is asked.
 fn with_row(words: Words, first: u64, second: u64, third: u64, odd: u64) -> Words
     requires odd { odd < 2 }
-    ensures { (coords old : List ℕ) → IsSound coords old first second third → AreSeparate coords old words.first words.second words.third → AreSeparate coords old result.first result.second result.third }
+    ensures { (coords old : List ℕ) → IsSound coords old first second third → AreSeparate coords old words.first words.second words.third
+        → AreSeparate coords old result.first result.second result.third }
 {
     if first != 0 {
         Words {

@@ -95,7 +95,8 @@ fn gather_word(
     requires before { before ≤ 128 }
     requires rows { length rows.old ≡ 384 }
     ensures count { result ≤ 128 }
-    ensures rows { (columns coords : List ℕ) (full : Family) → HasCoordinates columns coords full → IsTurned coords full table.now → AreSound coords old.now before rows.old → AreSound coords old.now result rows.new }
+    ensures rows { (columns coords : List ℕ) (full : Family) → HasCoordinates columns coords full → IsTurned coords full table.now → AreSound coords old.now before rows.old
+        → AreSound coords old.now result rows.new }
 {
     let (first, second, third) = (!old[2], !old[3], !old[4]);
     let mut left = old[index];
@@ -227,7 +228,8 @@ fn try_rows(
     requires tags { length full.now.tags ≡ length full.now.columns }
     requires old { IsRow (length coords.now) old.now }
     requires out { length out.old ≡ words_for (length coords.now) }
-    ensures gone { IsTrue result → (columns : List ℕ) → HasCoordinates columns coords.now full.now → (number : ℕ) → ((i : ℕ) → bit_at number i ≡ word_bit message.now i) → HasGoneOver columns old.now out.new number }
+    ensures gone { IsTrue result → (columns : List ℕ) → HasCoordinates columns coords.now full.now → (number : ℕ) → ((i : ℕ) → bit_at number i ≡ word_bit message.now i)
+        → HasGoneOver columns old.now out.new number }
     ensures kept { IsFalse result → out.new ≡ out.old }
     ensures made { IsReady coords.now full.now turned.new }
 {

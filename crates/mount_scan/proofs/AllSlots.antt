@@ -1,5 +1,6 @@
 -- Once all slots are scanned the map names the live records, the live counts are theirs, and the next seq is that of a mount.
-use Rattle.std.proofs.Common.{◌≡◌, ◌⊎◌, inl, inr, ℕ, zero, suc, ◌+◌, ◌/◌, ◌<◌, ◌≤◌, max, Bool, true, false, cond, List, [], ◌∷◌, ◌++◌, map, ◌==◌, if◌then◌else◌, Option, Some, None, refl, sym, ap, ◌∙◌, subst, arith}
+use Rattle.std.proofs.Common.{◌≡◌, ◌⊎◌, inl, inr, ℕ, zero, suc, ◌+◌, ◌/◌, ◌<◌, ◌≤◌, max, Bool, true, false, cond, List, [], ◌∷◌, ◌++◌, map, ◌==◌, if◌then◌else◌, Option, Some, None, refl, sym, ap}
+use Rattle.std.proofs.Common.{◌∙◌, subst, arith}
 use Rattle.std.specs.List.{count_by, flat_map, fold, range_with_len}
 use Rattle.std.proofs.lemmas.Bool.{cases_lt}
 use Rattle.std.proofs.lemmas.List.Sums.{sum_by-cons}
@@ -39,13 +40,15 @@ map_is_live g cells tables names =
 entry_stands : (g : Geometry) (block : ℕ) (o : Option Placed) → is_entry_in g.pages block (entry_of o) ≡ stands_in g block o
 entry_stands g block None = refl
 entry_stands g block (Some placed) = at (says_zeros placed.header) where
-  at : (t : Bool) → is_entry_in g.pages block (if t then Some (Zeros (record { page = placed.place.page; slot = placed.place.slot })) else Some (Held (record { page = placed.place.page; slot = placed.place.slot })))
+  at : (t : Bool) → is_entry_in g.pages block
+      (if t then Some (Zeros (record { page = placed.place.page; slot = placed.place.slot })) else Some (Held (record { page = placed.place.page; slot = placed.place.slot })))
       ≡ (placed.place.page / g.pages == block)
   at true = refl
   at false = refl
 
 -- each live count is the number of sectors whose live record stands in the block
-pub lives_are_live : (g : Geometry) (cells : List (List ℕ)) (tables : Tables) (block : ℕ) → tables.book.pages ≡ g.pages → IsReading tables → Names g cells (places g) tables → live_at tables.book block ≡ live_count g cells block
+pub lives_are_live : (g : Geometry) (cells : List (List ℕ)) (tables : Tables) (block : ℕ) → tables.book.pages ≡ g.pages → IsReading tables → Names g cells (places g) tables
+    → live_at tables.book block ≡ live_count g cells block
 unfolding live_count live_map
 lives_are_live g cells tables block pages reading names =
     reading.live block
@@ -67,7 +70,8 @@ seq_least : (g : Geometry) (cells : List (List ℕ)) (seq : ℕ) (slots : List P
 seq_least g cells seq [] = omega arith
 seq_least g cells seq (place ∷ slots) = omega (arith, with_least seq (header_in g cells place), seq_least g cells (seq_with seq (header_in g cells place)) slots)
 
-seq_covers : (g : Geometry) (cells : List (List ℕ)) (seq : ℕ) (slots : List Place) (place : Place) (header : Header) → Member place slots → header_in g cells place ≡ Some header → seq_after header ≤ seq_from g cells seq slots
+seq_covers : (g : Geometry) (cells : List (List ℕ)) (seq : ℕ) (slots : List Place) (place : Place) (header : Header) → Member place slots → header_in g cells place ≡ Some header
+    → seq_after header ≤ seq_from g cells seq slots
 seq_covers g cells seq [] place header m e = absurd m
 seq_covers g cells seq (first ∷ slots) place header m e = elim m [
   | inl same ↦ (
@@ -96,7 +100,8 @@ reached_then g cells from mid seq first second = elim second [
 seq_reached : (g : Geometry) (cells : List (List ℕ)) (seq : ℕ) (slots : List Place) → Reached g cells seq (seq_from g cells seq slots)
 seq_reached g cells seq [] = inl refl
 seq_reached g cells seq (place ∷ slots) =
-    reached_then g cells seq (seq_with seq (header_in g cells place)) _ (reached_one g cells seq place (header_in g cells place) refl) (seq_reached g cells (seq_with seq (header_in g cells place)) slots)
+    reached_then g cells seq (seq_with seq (header_in g cells place)) _ (reached_one g cells seq place (header_in g cells place) refl)
+    (seq_reached g cells (seq_with seq (header_in g cells place)) slots)
 
 -- ---- the list of all slots
 

@@ -1,5 +1,6 @@
 -- A page more is read into the tables, and then a block more.
-use Rattle.std.proofs.Common.{◌≡◌, ◌⊎◌, inl, inr, ℕ, suc, ◌+◌, ◌*◌, ◌/◌, ◌%◌, ◌<◌, ◌≤◌, Bool, List, [], ◌∷◌, ◌++◌, length, ◌&&◌, ◌==◌, nat_lt, if◌then◌else◌, sym, ap, ◌∙◌, subst, arith, get_or-set_same, get_or-set_other}
+use Rattle.std.proofs.Common.{◌≡◌, ◌⊎◌, inl, inr, ℕ, suc, ◌+◌, ◌*◌, ◌/◌, ◌%◌, ◌<◌, ◌≤◌, Bool, List, [], ◌∷◌, ◌++◌, length, ◌&&◌, ◌==◌, nat_lt, if◌then◌else◌, sym, ap, ◌∙◌, subst, arith}
+use Rattle.std.proofs.Common.{get_or-set_same, get_or-set_other}
 use Rattle.std.specs.Prelude.{slice_index, slice_index_or, slice_set}
 use Rattle.std.specs.List.{count_by, flat_map, range_with_len}
 use Rattle.std.proofs.lemmas.Bool.{cases_eq, cases_lt, eq-eqb, ne_eqb, cond-true, cond-false}
@@ -68,7 +69,8 @@ module _ (g : Geometry) (cells : List (List ℕ)) (block number page : ℕ) (in_
   in_die : page < page_count g
   in_die = let low = mul-add-lt block g.pages number g.blocks in_blocks in_block in omega (arith, low, page_is)
 
-  pub page_shown : (seen : Seen) (unit sealed : Bool) → seen ≡ seen_page g.main_bytes g.generations (page_at cells page) → unit ≡ (number % g.span == 0 && nat_lt (number / g.span) (units g)) → sealed ≡ is_sealed g cells block
+  pub page_shown : (seen : Seen) (unit sealed : Bool) → seen ≡ seen_page g.main_bytes g.generations (page_at cells page) → unit ≡ (number % g.span == 0 && nat_lt (number / g.span) (units g))
+      → sealed ≡ is_sealed g cells block
       → ShowsPage g cells page seen unit sealed
   page_shown seen unit sealed seen_is unit_is sealed_is = record {
     within = in_die;
@@ -78,7 +80,8 @@ module _ (g : Geometry) (cells : List (List ℕ)) (block number page : ℕ) (in_
   }
 
   -- a page that was read and noted
-  pub page_read : (old new : Tables) (seen : Seen) (unit sealed : Bool) → ReadInto g cells block number old → ShowsPage g cells page seen unit sealed → NotedPage page seen unit sealed old new → ReadInto g cells block (number + 1) new
+  pub page_read : (old new : Tables) (seen : Seen) (unit sealed : Bool) → ReadInto g cells block number old → ShowsPage g cells page seen unit sealed → NotedPage page seen unit sealed old new
+      → ReadInto g cells block (number + 1) new
   page_read old new seen unit sealed read shows noted = record {
     fits = record {
       sizes = record {
@@ -136,7 +139,8 @@ reading_set block state old new s reading = record {
   order = ap (λ b. b.order) s.book ∙ reading.order;
 }
 
-scanned_set : (g : Geometry) (cells : List (List ℕ)) (slots : List Place) (block : ℕ) (state : State) (old new : Tables) → SetsFound block state old new → Scanned g cells slots old → Scanned g cells slots new
+scanned_set : (g : Geometry) (cells : List (List ℕ)) (slots : List Place) (block : ℕ) (state : State) (old new : Tables) → SetsFound block state old new → Scanned g cells slots old
+    → Scanned g cells slots new
 scanned_set g cells slots block state old new s scanned = record {
   names = record {
     sectors = ap length s.map ∙ scanned.names.sectors;
@@ -146,15 +150,19 @@ scanned_set g cells slots block state old new s scanned = record {
   seq = s.seq ∙ scanned.seq;
 }
 
-pub block_read : (g : Geometry) (cells : List (List ℕ)) (block : ℕ) (state : State) (old new : Tables) → block < g.blocks → ReadInto g cells block g.pages old → IsFound g cells block state → SetsFound block state old new → ReadInto g cells (block + 1) 0 new
+pub block_read : (g : Geometry) (cells : List (List ℕ)) (block : ℕ) (state : State) (old new : Tables) → block < g.blocks → ReadInto g cells block g.pages old → IsFound g cells block state
+    → SetsFound block state old new → ReadInto g cells (block + 1) 0 new
 block_read g cells block state old new inside read is s = record {
   fits = record { sizes = subst (HasSizes g) (sym s.book) read.fits.sizes; span = s.span ∙ read.fits.span; some_pages = read.fits.some_pages };
   reading = reading_set block state old new s read.reading;
-  scanned = scanned_set g cells (slots_below g ((block + 1) * g.pages + 0)) block state old new s (subst (λ p. Scanned g cells (slots_below g p) old) (let same : block * g.pages + g.pages ≡ (block + 1) * g.pages + 0 = omega arith in same) read.scanned);
+  scanned =
+      scanned_set g cells (slots_below g ((block + 1) * g.pages + 0)) block state old new s
+      (subst (λ p. Scanned g cells (slots_below g p) old) (let same : block * g.pages + g.pages ≡ (block + 1) * g.pages + 0 = omega arith in same) read.scanned);
   few_live = let none = no_live (block + 1) (omega arith) in omega (arith, none);
   none_later = λ later above. no_live later (omega arith);
   found = λ earlier below. subst (λ f. IsFound g cells earlier (slice_index_or f earlier Clean)) (sym s.found) (elim (cases_eq earlier block) [
-    | inl same ↦ subst (λ b. IsFound g cells b (slice_index_or (slice_set old.found.items block state) b Clean)) (sym same) (subst (IsFound g cells block) (sym (get_or-set_same old.found.items block state Clean in_found)) is)
+    | inl same ↦ subst (λ b. IsFound g cells b (slice_index_or (slice_set old.found.items block state) b Clean)) (sym same)
+        (subst (IsFound g cells block) (sym (get_or-set_same old.found.items block state Clean in_found)) is)
     | inr other ↦ subst (IsFound g cells earlier) (sym (get_or-set_other old.found.items block earlier state Clean other)) (read.found earlier (omega (arith, below, other)))
   ]);
 }
@@ -182,7 +190,9 @@ none_read shape sizes cells tables pages new = record {
     some_pages = new.some_pages;
   };
   reading = new_reading shape (length tables.map) sizes.span sizes.generations tables pages new;
-  scanned = subst (λ p. Scanned (geometry_of shape sizes (length tables.map)) cells (slots_below (geometry_of shape sizes (length tables.map)) p) tables) (let zero : 0 ≡ 0 * shape.pages + 0 = omega arith in zero)
+  scanned =
+      subst (λ p. Scanned (geometry_of shape sizes (length tables.map)) cells (slots_below (geometry_of shape sizes (length tables.map)) p) tables)
+      (let zero : 0 ≡ 0 * shape.pages + 0 = omega arith in zero)
       (new_scanned (geometry_of shape sizes (length tables.map)) cells tables new.map new.seq);
   few_live = omega (arith, no_live 0);
   none_later = λ later above. no_live later;
@@ -219,7 +229,8 @@ has_shape die sizes sectors serves shaped = record {
   ];
 }
 
-module _ (die : DieState) (sizes : Sizes) (old : Tables) (block number : ℕ) (sight : Sight) (serves : Serves sizes die.shape) (in_blocks : block < die.shape.blocks) (in_block : number < die.shape.pages)
+module _ (die : DieState) (sizes : Sizes) (old : Tables) (block number : ℕ) (sight : Sight) (serves : Serves sizes die.shape) (in_blocks : block < die.shape.blocks)
+    (in_block : number < die.shape.pages)
     (read : ReadOn die sizes block number old) (shows : ShowsOn die sizes old block number sight) (valid : IsValid old.book) where
   abbrev g : Geometry
   g = geometry_of die.shape sizes (length old.map)
@@ -239,8 +250,10 @@ module _ (die : DieState) (sizes : Sizes) (old : Tables) (block number : ℕ) (s
       (unit_is ∙ (λ i. number % read.fits.span i == 0 && nat_lt (number / read.fits.span i) (read.fits.sizes.units i))) shows
 
   -- and is noted
-  pub page_notes : (new : Tables) (pages : ℕ) (seen : Seen) (unit : Bool) (shown : Sight) → pages ≡ old.book.pages → seen ≡ seen_page sizes.page_bytes sizes.generations (page_of die (block * pages + number))
-      → unit ≡ (number % old.span == 0 && nat_lt (number / old.span) old.book.units) → shown ≡ sight_with sight seen number unit → NotedPage (block * pages + number) seen unit shown.sealed old new → ReadInto g die.cells block (number + 1) new
+  pub page_notes : (new : Tables) (pages : ℕ) (seen : Seen) (unit : Bool) (shown : Sight) → pages ≡ old.book.pages
+      → seen ≡ seen_page sizes.page_bytes sizes.generations (page_of die (block * pages + number))
+      → unit ≡ (number % old.span == 0 && nat_lt (number / old.span) old.book.units) → shown ≡ sight_with sight seen number unit → NotedPage (block * pages + number) seen unit shown.sealed old new
+      → ReadInto g die.cells block (number + 1) new
   page_notes new pages seen unit shown pages_is seen_is unit_is shown_is noted =
       let at : block * pages + number ≡ block * die.shape.pages + number = ap (λ p. block * p + number) (pages_is ∙ read.fits.sizes.pages) in
       let sealed = ap (λ (s : Sight). s.sealed) shown_is ∙ (page_shows pages seen unit pages_is seen_is unit_is).sealed (omega arith) in

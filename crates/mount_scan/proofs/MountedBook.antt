@@ -28,7 +28,8 @@ found_blank g cells block Reused is = sym is.0
 found_blank g cells block (Spare blank) is = absurd is
 
 module _ (g : Geometry) (cells : List (List ℕ)) (spare : ℕ) (old new : Tables) (sizes : HasSizes g old.book) (reading : IsReading old) (names : Names g cells (places g) old)
-    (found : (block : ℕ) → block < g.blocks → IsFound g cells block (slice_index_or old.found.items block Clean)) (free : IsLastFree old.book g.blocks (Some spare)) (settles : Settles spare old new) where
+    (found : (block : ℕ) → block < g.blocks → IsFound g cells block (slice_index_or old.found.items block Clean)) (free : IsLastFree old.book g.blocks (Some spare))
+    (settles : Settles spare old new) where
   lives : (block : ℕ) → live_at old.book block ≡ live_count g cells block
   lives block = lives_are_live g cells old block sizes.pages reading names
 

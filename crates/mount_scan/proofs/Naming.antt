@@ -1,5 +1,6 @@
 -- The map goes on naming the newest committed record of each sector, slot by slot.
-use Rattle.std.proofs.Common.{◌≡◌, ◌≢◌, inl, inr, ℕ, ◌<◌, Bool, true, false, List, [], ◌∷◌, ◌++◌, length, get_or, ◌==◌, if◌then◌else◌, Option, Some, None, refl, sym, ap, ◌∙◌, subst, get_or-set_same, get_or-set_other}
+use Rattle.std.proofs.Common.{◌≡◌, ◌≢◌, inl, inr, ℕ, ◌<◌, Bool, true, false, List, [], ◌∷◌, ◌++◌, length, get_or, ◌==◌, if◌then◌else◌, Option, Some, None, refl, sym, ap, ◌∙◌, subst}
+use Rattle.std.proofs.Common.{get_or-set_same, get_or-set_other}
 use Rattle.std.proofs.lemmas.Bool.{cases_eq, cases_Bool, eq-eqb, ne_eqb, cond-true, cond-false}
 use Rattle.std.proofs.lemmas.Option.{same_Some}
 use Rattle.std.specs.Prelude.{slice_index}
@@ -18,7 +19,8 @@ use Rattle.mount_scan.proofs.Newer.{newest_with, newest_in-more}
 -- winning over the entry of a record is being newer than that record
 wins_newer : (r : Placed) (place : Place) (header : Header) → wins (entry_of (Some r)) r.header.seq place header.seq ≡ is_newer (record { place = place; header = header }) r
 wins_newer r place header = at (says_zeros r.header) where
-  at : (t : Bool) → wins (if t then Some (Zeros (record { page = r.place.page; slot = r.place.slot })) else Some (Held (record { page = r.place.page; slot = r.place.slot }))) r.header.seq place header.seq
+  at : (t : Bool) → wins (if t then Some (Zeros (record { page = r.place.page; slot = r.place.slot })) else Some
+      (Held (record { page = r.place.page; slot = r.place.slot }))) r.header.seq place header.seq
       ≡ is_newer (record { place = place; header = header }) r
   at true = refl
   at false = refl
@@ -41,7 +43,8 @@ says_same old new sector newest same says = record {
   seq = λ placed e. ap (λ s. slice_index s.items sector) same.seqs ∙ says.seq placed e;
 }
 
-says_other : (old new : Tables) (place : Place) (header : Header) (sector : ℕ) (newest : Option Placed) → sector ≢ header.sector → TakesOver old new place header → Says old sector newest → Says new sector newest
+says_other : (old new : Tables) (place : Place) (header : Header) (sector : ℕ) (newest : Option Placed) → sector ≢ header.sector → TakesOver old new place header → Says old sector newest
+    → Says new sector newest
 says_other old new place header sector newest apart t says = record {
   entry = ap (λ m. entry_at m sector) t.map ∙ (get_or-set_other old.map header.sector sector _ None apart ∙ says.entry);
   seq = λ placed same. ap (λ s. get_or s sector 0) t.seqs ∙ (get_or-set_other old.seqs.items header.sector sector header.seq 0 apart ∙ says.seq placed same);
@@ -54,14 +57,17 @@ says_more old new place header None within long notes says =
     says_taken old new place header within long (notes.won (ap (λ e. wins e (slice_index old.seqs.items header.sector) place header.seq) says.entry))
 says_more old new place header (Some r) within long notes says = at (is_newer (record { place = place; header = header }) r) refl where
   tested : (t : Bool) → is_newer (record { place = place; header = header }) r ≡ t → wins (entry_at old.map header.sector) (slice_index old.seqs.items header.sector) place header.seq ≡ t
-  tested t e = ap (λ en. wins en (slice_index old.seqs.items header.sector) place header.seq) says.entry ∙ (ap (λ s. wins (entry_of (Some r)) s place header.seq) (says.seq r refl) ∙ (wins_newer r place header ∙ e))
+  tested t e =
+      ap (λ en. wins en (slice_index old.seqs.items header.sector) place header.seq) says.entry
+      ∙ (ap (λ s. wins (entry_of (Some r)) s place header.seq) (says.seq r refl) ∙ (wins_newer r place header ∙ e))
 
   at : (t : Bool) → is_newer (record { place = place; header = header }) r ≡ t → Says new header.sector (Some (if t then record { place = place; header = header } else r))
   at true e = says_taken old new place header within long (notes.won (tested true e))
   at false e = says_same old new header.sector (Some r) (notes.kept (tested false e)) says
 
 -- of any other
-says_beside : (old new : Tables) (place : Place) (header : Header) (sector : ℕ) (newest : Option Placed) → sector ≢ header.sector → Notes old new place header → Says old sector newest → Says new sector newest
+says_beside : (old new : Tables) (place : Place) (header : Header) (sector : ℕ) (newest : Option Placed) → sector ≢ header.sector → Notes old new place header → Says old sector newest
+    → Says new sector newest
 says_beside old new place header sector newest apart notes says = elim (cases_Bool (wins (entry_at old.map header.sector) (slice_index old.seqs.items header.sector) place header.seq)) [
   | inl won ↦ says_other old new place header sector newest apart (notes.won won) says
   | inr kept ↦ says_same old new sector newest (notes.kept kept) says
@@ -88,7 +94,8 @@ names_more g cells slots old new place header there within long same_long notes 
 
     of_own : Says new header.sector (newest_in g cells (slots ++ place ∷ []) header.sector)
     of_own = subst (Says new header.sector) (sym (newest_in-more g cells slots place header.sector ∙ ap (newest_with (newest_in g cells slots header.sector)) own))
-        (says_more old new place header (newest_in g cells slots header.sector) (subst (λ n. header.sector < n) (sym names.sectors) within) (subst (λ n. header.sector < n) (sym long) within) notes (before header.sector within))
+        (says_more old new place header (newest_in g cells slots header.sector) (subst (λ n. header.sector < n) (sym names.sectors) within) (subst (λ n. header.sector < n) (sym long) within) notes
+        (before header.sector within))
 
     of_other : (sector : ℕ) → sector < g.sectors → sector ≢ header.sector → Says new sector (newest_in g cells (slots ++ place ∷ []) sector)
     of_other sector inside apart = subst (Says new sector) (sym (newest_in-more g cells slots place sector ∙ ap (newest_with (newest_in g cells slots sector)) (beside sector apart)))

@@ -35,13 +35,15 @@ scanned : (g : Geometry) (cells : List (List ℕ)) (slots : List Place) (old new
     → may ≡ may_hold g (place page slot) → sealed ≡ is_sealed g cells (block_of g page) → seen ≡ seen_slot (spare_at g cells page) slot
     → NotedSlot old new (place page slot) seen may sealed → Scanned g cells slots old → Scanned g cells (slots ++ place page slot ∷ []) new
 scanned g cells slots old new page slot seen may sealed may_is sealed_is seen_is n =
-    scanned_slot g cells slots old new (place page slot) may sealed seen.gate seen.header may_is sealed_is (ap (λ (s : SeenSlot). s.gate) seen_is) (ap (λ (s : SeenSlot). s.header) seen_is) n.seqs n.same_sectors n.notes n.seq
+    scanned_slot g cells slots old new (place page slot) may sealed seen.gate seen.header may_is sealed_is (ap (λ (s : SeenSlot). s.gate) seen_is)
+    (ap (λ (s : SeenSlot). s.header) seen_is) n.seqs n.same_sectors n.notes n.seq
 
 module _ (g : Geometry) (cells : List (List ℕ)) (slots : List Place) (page : ℕ) (seen : Seen) (unit sealed : Bool) (shows : ShowsPage g cells page seen unit sealed) where
   two : 2 ≤ g.generations → (old mid new : Tables) → NotedSlot old mid (place page 0) seen.first true sealed → NotedSlot mid new (place page 1) seen.second unit sealed
       → Scanned g cells slots old → Scanned g cells ((slots ++ place page 0 ∷ []) ++ place page 1 ∷ []) new
   two least old mid new first second s =
-      scanned g cells (slots ++ place page 0 ∷ []) mid new page 1 seen.second unit sealed (may_further g page 1 unit shows.within refl (omega arith) shows.unit_is) shows.sealed_is (ap (λ (s : Seen). s.second) shows.seen_is) second
+      scanned g cells (slots ++ place page 0 ∷ []) mid new page 1 seen.second unit sealed (may_further g page 1 unit shows.within refl (omega arith) shows.unit_is) shows.sealed_is
+      (ap (λ (s : Seen). s.second) shows.seen_is) second
       (scanned g cells slots old mid page 0 seen.first true sealed (may_first g page shows.within) shows.sealed_is (ap (λ (s : Seen). s.first) shows.seen_is) first s)
 
   pub scanned_two : g.generations ≡ 2 → (old mid new : Tables) → NotedSlot old mid (place page 0) seen.first true sealed → NotedSlot mid new (place page 1) seen.second unit sealed
@@ -58,5 +60,6 @@ module _ (g : Geometry) (cells : List (List ℕ)) (slots : List Place) (page : �
   scanned_three is old mid last new first second third s =
       subst (λ l. Scanned g cells l new) (ap (λ l. l ++ place page 2 ∷ []) (append_assoc slots (place page 0 ∷ []) (place page 1 ∷ []))
       ∙ (append_assoc slots (place page 0 ∷ place page 1 ∷ []) (place page 2 ∷ []) ∙ ap (λ n. slots ++ slots_of (record g { generations = n }) page) (sym is)))
-      (scanned g cells ((slots ++ place page 0 ∷ []) ++ place page 1 ∷ []) last new page 2 seen.third unit sealed (may_further g page 2 unit shows.within refl (omega arith) shows.unit_is) shows.sealed_is (third_is is) third
+      (scanned g cells ((slots ++ place page 0 ∷ []) ++ place page 1 ∷ []) last new page 2 seen.third unit sealed
+      (may_further g page 2 unit shows.within refl (omega arith) shows.unit_is) shows.sealed_is (third_is is) third
       (two (omega arith) old mid last first second s))

@@ -34,7 +34,8 @@ some_counted pages map sector entry e =
     none_is h = cc
 
 -- the live counts with one less in the block of an entry of the map
-pub forgotten_live : (v : BookValue) (former : Option Entry) (block : ℕ) → ((entry : Entry) → former ≡ Some entry → ((place_of entry).page / v.pages < length v.live) × (0 < live_at v ((place_of entry).page / v.pages)))
+pub forgotten_live : (v : BookValue) (former : Option Entry) (block : ℕ)
+    → ((entry : Entry) → former ≡ Some entry → ((place_of entry).page / v.pages < length v.live) × (0 < live_at v ((place_of entry).page / v.pages)))
     → live_at (forgotten v former) block + ones v.pages block former ≡ live_at v block
 forgotten_live v None block some = omega arith
 forgotten_live v (Some entry) block some =

@@ -48,7 +48,8 @@ pub record IsSettledBelow (found : List State) (spare n : ℕ) (v : BookValue) :
   pub rest : (b : ℕ) → n ≤ b → state_at v b ≡ Clean
   pub order : v.order ≡ filter (λ b. is_closed (settled_at found spare b)) (range_with_len 0 n)
 
-pub settled_more : (found : List State) (spare n : ℕ) (v : BookValue) (s : State) → n < length v.states → s ≡ settled_at found spare n → IsSettledBelow found spare n v → IsSettledBelow found spare (n + 1) (with_state v n s)
+pub settled_more : (found : List State) (spare n : ℕ) (v : BookValue) (s : State) → n < length v.states → s ≡ settled_at found spare n → IsSettledBelow found spare n v
+    → IsSettledBelow found spare (n + 1) (with_state v n s)
 settled_more found spare n v s within is below = record {
   states = λ b less. elim (cases_eq b n) [
     | inl same ↦ subst (λ k. state_at (with_state v n s) k ≡ settled_at found spare k) (sym same) (get_or-set_same v.states n s Clean within ∙ is)

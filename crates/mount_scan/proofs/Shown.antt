@@ -82,4 +82,6 @@ scanned_slot g cells slots old new place may sealed gate header may_is sealed_is
 
     at : (o : Option Header) → shown may sealed (length old.map) gate header ≡ o → NotesAny old new place o → Names g cells (slots ++ place ∷ []) new
     at None e stays = names_same g cells slots old new place (there ∙ e) stays.map stays.seqs scanned.names
-    at (Some h) e noted = names_more g cells slots old new place h (there ∙ e) (subst (λ n. h.sector < n) scanned.names.sectors (shown_sector may sealed (length old.map) gate header h e)) (long ∙ scanned.names.sectors) same_long noted scanned.names
+    at (Some h) e noted =
+        names_more g cells slots old new place h (there ∙ e) (subst (λ n. h.sector < n) scanned.names.sectors (shown_sector may sealed (length old.map) gate header h e))
+        (long ∙ scanned.names.sectors) same_long noted scanned.names

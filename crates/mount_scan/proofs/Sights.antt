@@ -1,5 +1,6 @@
 -- A page more of a block: whether it is blank, its seal where it is the first, and its level where a unit begins there.
-use Rattle.std.proofs.Common.{◌≡◌, ◌⊎◌, inl, inr, ℕ, suc, ◌+◌, ◌*◌, ◌/◌, ◌%◌, ◌<◌, ◌≤◌, max, drop, Bool, true, false, List, [], ◌∷◌, ◌&&◌, ◌==◌, nat_lt, not, if◌then◌else◌, refl, sym, ap, ◌∙◌, subst, arith}
+use Rattle.std.proofs.Common.{◌≡◌, ◌⊎◌, inl, inr, ℕ, suc, ◌+◌, ◌*◌, ◌/◌, ◌%◌, ◌<◌, ◌≤◌, max, drop, Bool, true, false, List, [], ◌∷◌, ◌&&◌, ◌==◌, nat_lt, not, if◌then◌else◌, refl, sym, ap, ◌∙◌}
+use Rattle.std.proofs.Common.{subst, arith}
 use Rattle.std.specs.List.{list_all, range_with_len}
 use Rattle.std.proofs.lemmas.Bool.{cases_eq, cases_lt, eq-eqb, ne_eqb, lt-ltb, eqb-true, ltb-true, and_parts, false≢true, cond-true, cond-false}
 use Rattle.std.proofs.lemmas.Nat.{div-mul-add, mod-mul-add, div-add-mod', mul-le}
@@ -74,7 +75,8 @@ and_true true false = refl
 and_true false b = refl
 
 module _ (g : Geometry) (cells : List (List ℕ)) (block number : ℕ) (sight : Sight) (seen : Seen) (unit : Bool) (slots : (g.generations ≡ 2) ⊎ (g.generations ≡ 3)) (some : 0 < g.span)
-    (seen_is : seen ≡ seen_page g.main_bytes g.generations (page_at cells (block * g.pages + number))) (unit_is : unit ≡ (number % g.span == 0 && nat_lt (number / g.span) (units g))) (shows : Shows g cells block number sight) where
+    (seen_is : seen ≡ seen_page g.main_bytes g.generations (page_at cells (block * g.pages + number))) (unit_is : unit ≡ (number % g.span == 0 && nat_lt (number / g.span) (units g)))
+    (shows : Shows g cells block number sight) where
   page : ℕ
   page = block * g.pages + number
 
@@ -97,7 +99,9 @@ module _ (g : Geometry) (cells : List (List ℕ)) (block number : ℕ) (sight : 
   ]
 
   own : Highest g.generations (spare_at g cells (block * g.pages + number)) (page_level seen)
-  own = subst (λ (s : Seen). Highest g.generations (spare_at g cells (block * g.pages + number)) (page_level s)) (sym seen_is) (highest_on g.main_bytes g.generations (page_at cells (block * g.pages + number)) slots)
+  own =
+      subst (λ (s : Seen). Highest g.generations (spare_at g cells (block * g.pages + number)) (page_level s)) (sym seen_is)
+      (highest_on g.main_bytes g.generations (page_at cells (block * g.pages + number)) slots)
 
   -- a page that is the first of a unit
   begins : (u : ℕ) → u * g.span ≡ number → u < units g → unit ≡ true
@@ -118,7 +122,8 @@ module _ (g : Geometry) (cells : List (List ℕ)) (block number : ℕ) (sight : 
 
   abbrev Level : ℕ → Type 0
   Level level =
-      (level < g.generations) × ((u slot : ℕ) → u * g.span < number + 1 → u < units g → level < slot → slot < g.generations → UnitSlotBlank g cells block u slot) × ((level ≡ 0) ⊎ SlotUsed g cells block level)
+      (level < g.generations) × ((u slot : ℕ) → u * g.span < number + 1 → u < units g → level < slot → slot < g.generations → UnitSlotBlank g cells block u slot)
+      × ((level ≡ 0) ⊎ SlotUsed g cells block level)
 
   level_begun : unit ≡ true → Level (max sight.level (page_level seen))
   level_begun is = (

@@ -1,5 +1,6 @@
 -- While pages are read, what a record's taking over changes keeps the tables as a scan has them.
-use Rattle.std.proofs.Common.{◌≡◌, inl, inr, ℕ, ◌+◌, ◌/◌, ◌<◌, Bool, true, false, length, get_or, if◌then◌else◌, Option, Some, None, refl, sym, ap, ◌∙◌, subst, arith, get_or-set_same, get_or-set_other}
+use Rattle.std.proofs.Common.{◌≡◌, inl, inr, ℕ, ◌+◌, ◌/◌, ◌<◌, Bool, true, false, length, get_or, if◌then◌else◌, Option, Some, None, refl, sym, ap, ◌∙◌, subst, arith, get_or-set_same}
+use Rattle.std.proofs.Common.{get_or-set_other}
 use Rattle.std.specs.List.{count_by}
 use Rattle.std.proofs.lemmas.Bool.{cases_eq, cond-false}
 use Rattle.std.proofs.lemmas.List.{length-set}
@@ -57,17 +58,20 @@ same_counted v former at clean =
 -- the entry of a record names its page
 entry_page : (place : Place) (header : Header) (entry : Entry) → entry_of (Some (record { place = place; header = header })) ≡ Some entry → (place_of entry).page ≡ place.page
 entry_page place header entry = at (says_zeros header) where
-  at : (t : Bool) → (if t then Some (Zeros (record { page = place.page; slot = place.slot })) else Some (Held (record { page = place.page; slot = place.slot }))) ≡ Some entry → (place_of entry).page ≡ place.page
+  at : (t : Bool) → (if t then Some (Zeros (record { page = place.page; slot = place.slot })) else Some (Held (record { page = place.page; slot = place.slot }))) ≡ Some entry
+      → (place_of entry).page ≡ place.page
   at true e = ap (λ n. (place_of n).page) (sym (same_Some _ entry e))
   at false e = ap (λ n. (place_of n).page) (sym (same_Some _ entry e))
 
 entry_ones : (pages block : ℕ) (place : Place) (header : Header) → ones pages block (entry_of (Some (record { place = place; header = header }))) ≡ one_at (place.page / pages) block
 entry_ones pages block place header = at (says_zeros header) where
-  at : (t : Bool) → ones pages block (if t then Some (Zeros (record { page = place.page; slot = place.slot })) else Some (Held (record { page = place.page; slot = place.slot }))) ≡ one_at (place.page / pages) block
+  at : (t : Bool) → ones pages block (if t then Some (Zeros (record { page = place.page; slot = place.slot })) else Some (Held (record { page = place.page; slot = place.slot })))
+      ≡ one_at (place.page / pages) block
   at true = refl
   at false = refl
 
-module _ (old new : Tables) (place : Place) (header : Header) (reading : IsReading old) (in_map : header.sector < length old.map) (in_states : place.page / old.book.pages < length old.book.states) where
+module _ (old new : Tables) (place : Place) (header : Header) (reading : IsReading old) (in_map : header.sector < length old.map)
+    (in_states : place.page / old.book.pages < length old.book.states) where
   in_live : place.page / old.book.pages < length old.book.live
   in_live = subst (λ n. place.page / old.book.pages < n) (sym reading.lives) in_states
 
@@ -104,9 +108,11 @@ module _ (old new : Tables) (place : Place) (header : Header) (reading : IsReadi
             (λ e is. subst (λ n. (place_of e).page / old.book.pages < n) (sym reading.lives) (reading.within header.sector e is)) (entry_ones old.book.pages block place header)
             ∙ (ap (count_by (is_entry_in old.book.pages block)) (sym t.map) ∙ ap (λ p. count_by (is_entry_in p block) new.map) (sym same.pages)));
         within = λ sector e is.
-            subst (λ p. (place_of e).page / p < length new.book.states) (sym same.pages) (subst (λ s. (place_of e).page / old.book.pages < length s) (sym same.states) (elim (cases_eq sector header.sector) [
+            subst (λ p. (place_of e).page / p < length new.book.states) (sym same.pages)
+            (subst (λ s. (place_of e).page / old.book.pages < length s) (sym same.states) (elim (cases_eq sector header.sector) [
               | inl own ↦ (
-                  let taken : entry ≡ Some e = sym (get_or-set_same old.map header.sector entry None in_map) ∙ (ap (λ m. entry_at m header.sector) (sym t.map) ∙ subst (λ s. entry_at new.map s ≡ Some e) own is) in
+                  let taken : entry ≡ Some e =
+                  sym (get_or-set_same old.map header.sector entry None in_map) ∙ (ap (λ m. entry_at m header.sector) (sym t.map) ∙ subst (λ s. entry_at new.map s ≡ Some e) own is) in
                   subst (λ p. p / old.book.pages < length old.book.states) (sym (entry_page place header e taken)) in_states)
               | inr other ↦ reading.within sector e (sym (get_or-set_other old.map header.sector sector entry None other) ∙ (ap (λ m. entry_at m sector) (sym t.map) ∙ is))
             ]));

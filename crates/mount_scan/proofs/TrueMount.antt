@@ -77,7 +77,8 @@ module _ (g : Geometry) (cells : List (List ℕ)) (book : BookValue) (is : IsMou
 
 -- Where all pages are read and some block is free, the settled book and then a run of the recycling rule are those of a mount.
 pub tables_are_mounted : (g : Geometry) (cells : List (List ℕ)) (few spare : ℕ) (old mid new : Tables) → HasShape (shape_of g) cells → 0 < units g → ReadInto g cells g.blocks 0 old
-    → IsLastFree old.book (length old.book.states) (Some spare) → Settles spare old mid → IsValid mid.book → Recycles few mid.book new.book → new.map ≡ mid.map → new.seq ≡ mid.seq → AreMounted g few cells new
+    → IsLastFree old.book (length old.book.states) (Some spare) → Settles spare old mid → IsValid mid.book → Recycles few mid.book new.book → new.map ≡ mid.map → new.seq ≡ mid.seq
+    → AreMounted g few cells new
 tables_are_mounted g cells few spare old mid new shape some read free settles valid run same_map same_seq = record {
   found = mid.book;
   mounted = mounted;

@@ -21,7 +21,8 @@ use Rattle.page_codec.specs.TrueBook.{IsTrue, IsTrueBook, IsTrueRecycled, IsTrue
 
 -- ---- a block with a live record
 
-pub stands_counted : (g : Geometry) (cells : List (List ℕ)) (block sector : ℕ) (placed : Placed) → sector < g.sectors → live_record g cells sector ≡ Some placed → block_of g placed.place.page ≡ block → 0 < live_count g cells block
+pub stands_counted : (g : Geometry) (cells : List (List ℕ)) (block sector : ℕ) (placed : Placed) → sector < g.sectors → live_record g cells sector ≡ Some placed
+    → block_of g placed.place.page ≡ block → 0 < live_count g cells block
 unfolding live_count
 stands_counted g cells block sector placed inside is at =
     let ones : ℕ → ℕ = λ s. cond (stands_in g block (live_record g cells s)) 1 0 in
@@ -154,7 +155,8 @@ done_by_run few v w some run block level is none =
     (settled_by_run few v w run block (ap is_used is, none, some))
 
 -- the true book between calls
-pub true_book_by_run : (g : Geometry) (cells : List (List ℕ)) (table : List (Option Entry)) (seq few : ℕ) (v w : BookValue) → 0 < units g → Recycles few v w → IsTrue g cells v table seq → IsTrueBook g few cells w table seq
+pub true_book_by_run : (g : Geometry) (cells : List (List ℕ)) (table : List (Option Entry)) (seq few : ℕ) (v w : BookValue) → 0 < units g → Recycles few v w → IsTrue g cells v table seq
+    → IsTrueBook g few cells w table seq
 true_book_by_run g cells table seq few v w some run is =
     let kept = true_by_run g cells table seq few v w run is in
     record { tables = kept; recycling_done = done_by_run few v w (subst (λ n. 0 < n) (sym kept.sizes.units) some) run }

@@ -1,5 +1,6 @@
 -- What a scan keeps of the slots that it has met.
-use Rattle.std.specs.Prelude.{◌≡◌, ℕ, ◌+◌, ◌-◌, ◌/◌, ◌<◌, ◌≤◌, Bool, not, true, false, List, [], ◌++◌, length, map, slice_index, slice_set, ◌&&◌, ◌||◌, ◌==◌, nat_lt, max, if◌then◌else◌, Option, Some, None}
+use Rattle.std.specs.Prelude.{◌≡◌, ℕ, ◌+◌, ◌-◌, ◌/◌, ◌<◌, ◌≤◌, Bool, not, true, false, List, [], ◌++◌, length, map, slice_index, slice_set, ◌&&◌, ◌||◌, ◌==◌, nat_lt, max, if◌then◌else◌, Option}
+use Rattle.std.specs.Prelude.{Some, None}
 use Rattle.std.specs.List.{count_by, filter_map, fold, range_with_len}
 use Rattle.zero_count.specs.declared.Header.{Header}
 use Rattle.cell_die.specs.Cells.{page_at}

@@ -1,5 +1,6 @@
 -- What a program, a gate and an erase do to the live records of a die.
-use Rattle.std.proofs.Common.{◌≡◌, ◌≢◌, ◌⊎◌, inl, inr, ℕ, ◌*◌, ◌<◌, ◌≤◌, Bool, true, false, List, [], drop, length, ◌&&◌, slice_set, if◌then◌else◌, Option, Some, None, refl, sym, ap, ap₂, ◌∙◌, subst, get_or-set_other, get_or-set_same}
+use Rattle.std.proofs.Common.{◌≡◌, ◌≢◌, ◌⊎◌, inl, inr, ℕ, ◌*◌, ◌<◌, ◌≤◌, Bool, true, false, List, [], drop, length, ◌&&◌, slice_set, if◌then◌else◌, Option, Some, None, refl, sym, ap, ap₂, ◌∙◌}
+use Rattle.std.proofs.Common.{subst, get_or-set_other, get_or-set_same}
 use Rattle.std.proofs.lemmas.Bool.{cases_eq, cases_Bool}
 use Rattle.zero_count.specs.declared.Header.{Header}
 use Rattle.zero_count.specs.HeaderWord.{header_of}
@@ -20,16 +21,19 @@ pub record SlotStays (g : Geometry) (old new : List (List ℕ)) (page slot : ℕ
 abbrev pub SealStays : Geometry → List (List ℕ) → List (List ℕ) → ℕ → Type 0
 SealStays g old new page = is_seal_charged (spare_at g new page) ≡ is_seal_charged (spare_at g old page)
 
-is_committed_stays : (g : Geometry) (old new : List (List ℕ)) (place : Place) → SlotStays g old new place.page place.slot → SealStays g old new (block_of g place.page * g.pages) → (h : Header) → is_committed g new place h ≡ is_committed g old place h
+is_committed_stays : (g : Geometry) (old new : List (List ℕ)) (place : Place) → SlotStays g old new place.page place.slot → SealStays g old new (block_of g place.page * g.pages) → (h : Header)
+    → is_committed g new place h ≡ is_committed g old place h
 unfolding is_committed
 is_committed_stays g old new place s seal h = ap₂ (λ (gate sealed : Bool). gate && (if is_copy h then sealed else true)) s.gate seal
 
-if_committed_stays : (g : Geometry) (old new : List (List ℕ)) (place : Place) → ((h : Header) → is_committed g new place h ≡ is_committed g old place h) → (o : Option Header) → if_committed g new place o ≡ if_committed g old place o
+if_committed_stays : (g : Geometry) (old new : List (List ℕ)) (place : Place) → ((h : Header) → is_committed g new place h ≡ is_committed g old place h) → (o : Option Header)
+    → if_committed g new place o ≡ if_committed g old place o
 if_committed_stays g old new place f None = refl
 if_committed_stays g old new place f (Some h) = ap (λ (t : Bool). if t then Some h else None) (f h)
 
 -- a slot that stays is committed as before
-pub committed_stays : (g : Geometry) (old new : List (List ℕ)) (place : Place) → SlotStays g old new place.page place.slot → SealStays g old new (block_of g place.page * g.pages) → committed_in g new place ≡ committed_in g old place
+pub committed_stays : (g : Geometry) (old new : List (List ℕ)) (place : Place) → SlotStays g old new place.page place.slot → SealStays g old new (block_of g place.page * g.pages)
+    → committed_in g new place ≡ committed_in g old place
 unfolding committed_in record_in
 committed_stays g old new place s seal =
     ap (λ (word : List ℕ). if_committed g new place (if may_hold g place then below_sectors g (header_of word) else None)) s.word
@@ -79,7 +83,8 @@ program_keeps g old new page one p = live_same g old new same
     at_page : (place : Place) → place.page ≡ page → place.slot < g.generations → committed_in g new place ≡ committed_in g old place
     at_page place e k = elim (p.slots place.slot k) [
       | inl stays ↦ committed_stays g old new place (subst (λ (q : ℕ). SlotStays g old new q place.slot) (sym e) stays) (sealed (block_of g place.page * g.pages))
-      | inr gates ↦ ungated g new place (subst (λ (q : ℕ). is_gate_charged (spare_at g new q) place.slot ≡ false) (sym e) gates.1) ∙ sym (ungated g old place (subst (λ (q : ℕ). is_gate_charged (spare_at g old q) place.slot ≡ false) (sym e) gates.0))
+      | inr gates ↦ ungated g new place (subst (λ (q : ℕ). is_gate_charged (spare_at g new q) place.slot ≡ false) (sym e) gates.1)
+          ∙ sym (ungated g old place (subst (λ (q : ℕ). is_gate_charged (spare_at g old q) place.slot ≡ false) (sym e) gates.0))
     ]
 
     same : (place : Place) → committed_in g new place ≡ committed_in g old place
@@ -97,10 +102,12 @@ program_keeps g old new page one p = live_same g old new same
 abbrev pub gated : Geometry → List (List ℕ) → Place → List (List ℕ)
 gated g cells place = slice_set cells place.page (with_charged (page_at cells place.page) (gate_cell_of g.main_bytes place.slot))
 
-gated_page : (g : Geometry) (cells : List (List ℕ)) (place : Place) → place.page < length cells → page_at (gated g cells place) place.page ≡ with_charged (page_at cells place.page) (gate_cell_of g.main_bytes place.slot)
+gated_page : (g : Geometry) (cells : List (List ℕ)) (place : Place) → place.page < length cells
+    → page_at (gated g cells place) place.page ≡ with_charged (page_at cells place.page) (gate_cell_of g.main_bytes place.slot)
 gated_page g cells place h = get_or-set_same cells place.page _ [] h
 
-pub gated_others : (g : Geometry) (cells : List (List ℕ)) (place other : Place) → place.page < length cells → (other ≡ place) ⊎ (committed_in g (gated g cells place) other ≡ committed_in g cells other)
+pub gated_others : (g : Geometry) (cells : List (List ℕ)) (place other : Place) → place.page < length cells
+    → (other ≡ place) ⊎ (committed_in g (gated g cells place) other ≡ committed_in g cells other)
 gated_others g cells place other h = elim (cases_eq other.page place.page) [
   | inr apart ↦ inr (committed_stays g cells new other (page_stays g cells new other.page (others other.page apart) other.slot) (sealed (block_of g other.page * g.pages)))
   | inl e ↦ elim (cases_eq other.slot place.slot) [
@@ -149,4 +156,5 @@ gate_wins g old place h within w =
         (ap (λ (bytes : List ℕ). word_at (drop g.main_bytes bytes) place.slot) (gated_page g old place within) ∙ gate_keeps_words g.main_bytes (page_at old place.page) place.slot place.slot)
         ∙ (ap (if_committed g (gated g old place) place) w.there ∙ if_it_is_committed g (gated g old place) place h
         (ap₂ (λ (charged copy : Bool). charged && (if copy then is_sealed g (gated g old place) (block_of g place.page) else true))
-        (ap (λ (bytes : List ℕ). is_gate_charged (drop g.main_bytes bytes) place.slot) (gated_page g old place within) ∙ gate_charges g.main_bytes (page_at old place.page) place.slot w.room) w.single))
+        (ap (λ (bytes : List ℕ). is_gate_charged (drop g.main_bytes bytes) place.slot) (gated_page g old place within)
+        ∙ gate_charges g.main_bytes (page_at old place.page) place.slot w.room) w.single))

@@ -48,7 +48,8 @@ counted_so g cells place h k e = at (is_committed g cells place k) refl e
     at true c l = let same = same_Some k h l in (same, subst (λ (z : Header). is_committed g cells place z ≡ true) same c)
     at false c l = absurd (none-some h l)
 
-if_committed_some : (g : Geometry) (cells : List (List ℕ)) (place : Place) (h : Header) (o : Option Header) → if_committed g cells place o ≡ Some h → (o ≡ Some h) × (is_committed g cells place h ≡ true)
+if_committed_some : (g : Geometry) (cells : List (List ℕ)) (place : Place) (h : Header) (o : Option Header) → if_committed g cells place o ≡ Some h
+    → (o ≡ Some h) × (is_committed g cells place h ≡ true)
 if_committed_some g cells place h None e = absurd (none-some h e)
 if_committed_some g cells place h (Some k) e = let c = counted_so g cells place h k e in (ap Some c.0, c.1)
 
@@ -78,17 +79,23 @@ block_of_first g block h = ap (λ (n : ℕ). n / g.pages) (sum block g.pages) �
 seal_fell : (g : Geometry) (old new : List (List ℕ)) (block : ℕ) → FallsIn g old new block → 0 < g.pages → is_sealed g new block ≡ true → is_sealed g old block ≡ true
 seal_fell g old new block f some h = keeps (above_drop g.main_bytes _ _ (f.fell (block * g.pages) (block_of_first g block some))) 248 h
 
-copy_fell : (g : Geometry) (old new : List (List ℕ)) (block : ℕ) → FallsIn g old new block → 0 < g.pages → (copy : Bool) → (if copy then is_sealed g new block else true) ≡ true → (if copy then is_sealed g old block else true) ≡ true
+copy_fell : (g : Geometry) (old new : List (List ℕ)) (block : ℕ) → FallsIn g old new block → 0 < g.pages → (copy : Bool) → (if copy then is_sealed g new block else true) ≡ true
+    → (if copy then is_sealed g old block else true) ≡ true
 copy_fell g old new block f some true h = seal_fell g old new block f some h
 copy_fell g old new block f some false h = refl
 
-other_stays : (g : Geometry) (old new : List (List ℕ)) (block : ℕ) → FallsIn g old new block → 0 < g.pages → (place : Place) → block_of g place.page ≢ block → committed_in g new place ≡ committed_in g old place
+other_stays : (g : Geometry) (old new : List (List ℕ)) (block : ℕ) → FallsIn g old new block → 0 < g.pages → (place : Place) → block_of g place.page ≢ block
+    → committed_in g new place ≡ committed_in g old place
 other_stays g old new block f some place apart =
-    committed_stays g old new place (record { gate = ap (λ (bytes : List ℕ). is_gate_charged (drop g.main_bytes bytes) place.slot) (f.others place.page apart); word = ap (λ (bytes : List ℕ). word_at (drop g.main_bytes bytes) place.slot) (f.others place.page apart) })
+    committed_stays g old new place (record {
+      gate = ap (λ (bytes : List ℕ). is_gate_charged (drop g.main_bytes bytes) place.slot) (f.others place.page apart);
+      word = ap (λ (bytes : List ℕ). word_at (drop g.main_bytes bytes) place.slot) (f.others place.page apart);
+    })
     (ap (λ (bytes : List ℕ). is_seal_charged (drop g.main_bytes bytes)) (f.others (block_of g place.page * g.pages) (λ e. apart (sym (block_of_first g (block_of g place.page) some) ∙ e))))
 
 -- what is committed in the block after the fall was committed before
-fell_committed : (g : Geometry) (old new : List (List ℕ)) (block : ℕ) → FallsIn g old new block → 0 < g.pages → 1 ≤ g.generations → (place : Place) (h : Header) → block_of g place.page ≡ block → committed_in g new place ≡ Some h → committed_in g old place ≡ Some h
+fell_committed : (g : Geometry) (old new : List (List ℕ)) (block : ℕ) → FallsIn g old new block → 0 < g.pages → 1 ≤ g.generations → (place : Place) (h : Header) → block_of g place.page ≡ block
+    → committed_in g new place ≡ Some h → committed_in g old place ≡ Some h
 fell_committed g old new block f some one place h here e =
     let c = committed_so g new place h e in
     let w = holds_within g place one c.holds in

@@ -1,5 +1,6 @@
 -- What changes a live record: the committed records alone.
-use Rattle.std.proofs.Common.{◌≡◌, ◌≢◌, ◌⊎◌, inl, inr, ℕ, zero, suc, ◌+◌, ◌<◌, ◌≤◌, Bool, true, false, List, [], ◌∷◌, ◌++◌, map, ◌||◌, ◌==◌, nat_lt, if◌then◌else◌, Option, Some, None, refl, sym, ap, ◌∙◌, arith, subst}
+use Rattle.std.proofs.Common.{◌≡◌, ◌≢◌, ◌⊎◌, inl, inr, ℕ, zero, suc, ◌+◌, ◌<◌, ◌≤◌, Bool, true, false, List, [], ◌∷◌, ◌++◌, map, ◌||◌, ◌==◌, nat_lt, if◌then◌else◌, Option, Some, None, refl, sym}
+use Rattle.std.proofs.Common.{ap, ◌∙◌, arith, subst}
 use Rattle.std.specs.List.{filter_map, flat_map, range_with_len}
 use Rattle.std.proofs.lemmas.Bool.{and_parts, or_cases, eqb-true, ltb-true, eq-eqb, ne_eqb, cases_Bool, cond-true, cond-false}
 use Rattle.std.proofs.lemmas.Option.{same_Some, none-some}
@@ -75,7 +76,8 @@ of_records g cells sector x m =
     let k = of_sector_some sector h.0 (committed_in g cells h.0) x h.2 in
     (subst (λ p. committed_in g cells p ≡ Some x.header) (sym k.1) k.0, k.2)
 
-pub in_records : (g : Geometry) (cells : List (List ℕ)) (place : Place) (h : Header) → 1 ≤ g.generations → committed_in g cells place ≡ Some h → Member (record { place = place; header = h }) (records_of g cells h.sector)
+pub in_records : (g : Geometry) (cells : List (List ℕ)) (place : Place) (h : Header) → 1 ≤ g.generations → committed_in g cells place ≡ Some h
+    → Member (record { place = place; header = h }) (records_of g cells h.sector)
 unfolding records_of
 in_records g cells place h one e =
     let w = holds_within g place one (committed_holds g cells place h e) in

@@ -11,7 +11,8 @@ abbrev pub Member : {X : Type 0} → X → List X → Type 0
 Member x [] = ⊥
 Member x (y ∷ ys) = (x ≡ y) ⊎ Member x ys
 
-member_cons : {X Y : Type 0} (f : X → Option Y) (y : Y) (x : X) (xs : List X) (ys : List Y) → (Member y ys → (z : X) × Member z xs × (f z ≡ Some y)) → (o : Option Y) → f x ≡ o → Member y (cons_option o ys) → (z : X) × Member z (x ∷ xs) × (f z ≡ Some y)
+member_cons : {X Y : Type 0} (f : X → Option Y) (y : Y) (x : X) (xs : List X) (ys : List Y) → (Member y ys → (z : X) × Member z xs × (f z ≡ Some y)) → (o : Option Y) → f x ≡ o
+    → Member y (cons_option o ys) → (z : X) × Member z (x ∷ xs) × (f z ≡ Some y)
 member_cons f y x xs ys rest None e m = let h = rest m in (h.0, inr h.1, h.2)
 member_cons f y x xs ys rest (Some w) e m = elim m [ inl same ↦ (x, inl refl, e ∙ ap Some (sym same)) | inr n ↦ (let h = rest n in (h.0, inr h.1, h.2)) ]
 
@@ -19,7 +20,8 @@ pub member_kept : {X Y : Type 0} (f : X → Option Y) (y : Y) (xs : List X) → 
 member_kept f y [] m = absurd m
 member_kept f y (x ∷ xs) m = member_cons f y x xs (filter_map f xs) (member_kept f y xs) (f x) refl m
 
-kept_cons : {X Y : Type 0} (f : X → Option Y) (x : X) (y : Y) (z : X) (zs : List X) (ys : List Y) → (Member x zs → Member y ys) → f x ≡ Some y → (o : Option Y) → f z ≡ o → (x ≡ z) ⊎ Member x zs → Member y (cons_option o ys)
+kept_cons : {X Y : Type 0} (f : X → Option Y) (x : X) (y : Y) (z : X) (zs : List X) (ys : List Y) → (Member x zs → Member y ys) → f x ≡ Some y → (o : Option Y) → f z ≡ o → (x ≡ z) ⊎ Member x zs
+    → Member y (cons_option o ys)
 kept_cons f x y z zs ys rest e None h m = elim m [ inl same ↦ absurd (none-some y (sym h ∙ (ap f (sym same) ∙ e))) | inr n ↦ rest n ]
 kept_cons f x y z zs ys rest e (Some w) h m = elim m [ inl same ↦ inl (same_Some y w (sym e ∙ (ap f same ∙ h))) | inr n ↦ inr (rest n) ]
 

@@ -1,5 +1,6 @@
 -- What a first write of a blank page leaves.
-use Rattle.std.proofs.Common.{◌≡◌, inr, ℕ, zero, suc, ◌+◌, ◌-◌, ◌*◌, ◌≤◌, true, false, List, [], ◌∷◌, drop, take, length, replicate, ◌==◌, length-drop, refl, sym, ap, ap₂, ◌∙◌, arith, subst, OnOk, OnErr, Result, Ok, Err}
+use Rattle.std.proofs.Common.{◌≡◌, inr, ℕ, zero, suc, ◌+◌, ◌-◌, ◌*◌, ◌≤◌, true, false, List, [], ◌∷◌, drop, take, length, replicate, ◌==◌, length-drop, refl, sym, ap, ap₂, ◌∙◌, arith, subst}
+use Rattle.std.proofs.Common.{OnOk, OnErr, Result, Ok, Err}
 use Rattle.std.proofs.lemmas.Bool.{and_parts, eqb-true}
 use Rattle.std.proofs.lemmas.List.{drop-replicate}
 use Rattle.zero_count.specs.declared.Header.{Header}
@@ -18,7 +19,8 @@ blank_row [] e = refl
 blank_row (x ∷ xs) e = let p = and_parts (x == 0) (is_blank xs) e in ap₂ (λ (y : ℕ) (ys : List ℕ). y ∷ ys) (eqb-true x 0 p.0) (blank_row xs p.1)
 
 -- a call that answers Ok leaves all, and one that fails a part of it
-pub reaches_any : {T E : Type 0} (result : Result T E) (old new target : List ℕ) (cell : ℕ) → OnOk result (new ≡ charge target cell) → OnErr result (Reaches old new target cell) → Reaches old new target cell
+pub reaches_any : {T E : Type 0} (result : Result T E) (old new target : List ℕ) (cell : ℕ) → OnOk result (new ≡ charge target cell) → OnErr result (Reaches old new target cell)
+    → Reaches old new target cell
 reaches_any (Ok x) old new target cell done part = inr done
 reaches_any (Err x) old new target cell done part = part
 
@@ -38,7 +40,8 @@ blank_page_ungated page old blank =
 
 -- the target of a blank page
 pub first_target : (page : ℕ) (header : Header) (old : DieState) (target : List ℕ) → is_blank (page_of old page) ≡ true → length target ≡ length (page_of old page)
-    → drop old.shape.main_bytes target ≡ with_header (replicate (length target - old.shape.main_bytes) 0) 0 header → old.shape.main_bytes + 16 ≤ length target → IsTarget (first_slot page) header old target
+    → drop old.shape.main_bytes target ≡ with_header (replicate (length target - old.shape.main_bytes) 0) 0 header → old.shape.main_bytes + 16 ≤ length target
+    → IsTarget (first_slot page) header old target
 first_target page header old target blank same spare room = record {
   above = subst (IsAbove target) (sym row) (above_blank target (length (page_of old page)) same);
   spare = spare ∙ ap (λ (bytes : List ℕ). with_header bytes 0 header) (ap (λ (n : ℕ). replicate (n - old.shape.main_bytes) 0) same ∙ sym zeros);
@@ -107,7 +110,8 @@ pub zeros_puts : (page : ℕ) (header : Header) (old new : DieState) (written ta
     → new.shape ≡ old.shape → OnlyPage page old new → Reaches (page_of old page) (page_of new page) target cell
     → Puts (MainBlank old.shape.main_bytes page) 1 (first_slot page) header old new
 zeros_puts page header old new written target m n cell w blank same gate shape only reaches =
-    put_ends (MainBlank old.shape.main_bytes page) 1 (first_slot page) header old old new written (omega arith) (midway_none (first_slot page) old) (write_target page header old written m n w) shape only
+    put_ends (MainBlank old.shape.main_bytes page) 1 (first_slot page) header old old new written (omega arith) (midway_none (first_slot page) old)
+    (write_target page header old written m n w) shape only
     (subst (λ (t : List ℕ). Reaches (page_of old page) (page_of new page) t (gate_cell_of old.shape.main_bytes 0)) same
     (subst (Reaches (page_of old page) (page_of new page) target) (cell_there old m cell w.bytes gate) reaches))
     (ap is_blank (ap (take old.shape.main_bytes) (done_here page _ old) ∙ (charge_main old.shape.main_bytes written (128 * 0) ∙ (ap (λ (k : ℕ). take k written) w.bytes ∙ blank))) ∙ blank_zeros m)

@@ -1,5 +1,6 @@
 -- What a put does to the records of a die, whatever its outcome.
-use Rattle.std.proofs.Common.{◌≡◌, ◌≢◌, ◌⊎◌, inl, inr, ℕ, ◌+◌, ◌*◌, ◌^◌, ◌<◌, ◌≤◌, Bool, true, false, List, drop, length, ◌&&◌, slice_index, if◌then◌else◌, Some, None, refl, sym, ap, ap₂, ◌∙◌, arith, subst}
+use Rattle.std.proofs.Common.{◌≡◌, ◌≢◌, ◌⊎◌, inl, inr, ℕ, ◌+◌, ◌*◌, ◌^◌, ◌<◌, ◌≤◌, Bool, true, false, List, drop, length, ◌&&◌, slice_index, if◌then◌else◌, Some, None, refl, sym, ap, ap₂, ◌∙◌}
+use Rattle.std.proofs.Common.{arith, subst}
 use Rattle.std.proofs.lemmas.Bool.{cases_eq, cond-true, lt-ltb}
 use Rattle.std.proofs.lemmas.Option.{same_Some}
 use Rattle.zero_count.specs.declared.Header.{Header}
@@ -69,7 +70,8 @@ done_seal g place h old new p page = elim (cases_eq page place.page) [
 ]
 
 -- every other slot stays, and so does every seal
-pub slot_stays : (g : Geometry) (place : Place) (h : Header) (old new : List (List ℕ)) (p : PutsCells g place h old new) (page slot : ℕ) → (page ≡ place.page → slot ≢ place.slot) → SlotStays g old new page slot
+pub slot_stays : (g : Geometry) (place : Place) (h : Header) (old new : List (List ℕ)) (p : PutsCells g place h old new) (page slot : ℕ) → (page ≡ place.page → slot ≢ place.slot)
+    → SlotStays g old new page slot
 slot_stays g place h old new p page slot apart = record {
   gate = same_tests _ _
       (λ e. sym (done_gate g place h old new p page slot apart) ∙ keeps (above_drop g.main_bytes _ _ (p.below page)) (128 * slot) e)
@@ -86,7 +88,8 @@ seal_stays g place h old new p page = same_tests _ _
     (λ e. sym (done_seal g place h old new p page) ∙ keeps (above_drop g.main_bytes _ _ (p.below page)) 248 e)
     (λ e. keeps (above_drop g.main_bytes _ _ (p.above page)) 248 e)
 
-pub other_committed : (g : Geometry) (place : Place) (h : Header) (old new : List (List ℕ)) → PutsCells g place h old new → (other : Place) → (other ≡ place) ⊎ (committed_in g new other ≡ committed_in g old other)
+pub other_committed : (g : Geometry) (place : Place) (h : Header) (old new : List (List ℕ)) → PutsCells g place h old new → (other : Place)
+    → (other ≡ place) ⊎ (committed_in g new other ≡ committed_in g old other)
 other_committed g place h old new p other = elim (cases_eq other.page place.page) [
   | inr apart ↦ inr (committed_stays g old new other (slot_stays g place h old new p other.page other.slot (λ e. absurd (apart e))) (seal_stays g place h old new p (block_of g other.page * g.pages)))
   | inl same ↦ elim (cases_eq other.slot place.slot) [
@@ -104,15 +107,18 @@ put_keeps_live g place h old new p before after = live_same g old new (λ other.
   | inl same ↦ subst (λ (q : Place). committed_in g new q ≡ committed_in g old q) (sym same) (ungated g new place after ∙ sym (ungated g old place before))
 ])
 
-placed_there : (g : Geometry) (place : Place) (h : Header) (old new : List (List ℕ)) → PutsCells g place h old new → HoldsRecord g place h → is_gate_charged (spare_at g new place.page) place.slot ≡ true → record_in g new place ≡ Some h
+placed_there : (g : Geometry) (place : Place) (h : Header) (old new : List (List ℕ)) → PutsCells g place h old new → HoldsRecord g place h
+    → is_gate_charged (spare_at g new place.page) place.slot ≡ true → record_in g new place ≡ Some h
 unfolding record_in
 placed_there g place h old new p f charged =
     cond-true (may_hold g place) (below_sectors g (header_in g new place)) None f.may
     ∙ (ap (λ (word : List ℕ). below_sectors g (header_of word))
-    (ap (λ (row : List ℕ). word_at (drop g.main_bytes row) place.slot) (p.whole charged place.page) ∙ (ap (λ (spare : List ℕ). word_at spare place.slot) p.record_there ∙ record_word (spare_at g old place.page) place.slot h p.room))
+    (ap (λ (row : List ℕ). word_at (drop g.main_bytes row) place.slot) (p.whole charged place.page)
+    ∙ (ap (λ (spare : List ℕ). word_at spare place.slot) p.record_there ∙ record_word (spare_at g old place.page) place.slot h p.room))
     ∙ (ap (below_sectors g) (read_spelled h f.header) ∙ ap (λ (t : Bool). if t then Some h else None) (lt-ltb h.sector g.sectors f.sector)))
 
-committed_there : (g : Geometry) (place : Place) (h : Header) (new : List (List ℕ)) → record_in g new place ≡ Some h → is_copy h ≡ false → is_gate_charged (spare_at g new place.page) place.slot ≡ true → committed_in g new place ≡ Some h
+committed_there : (g : Geometry) (place : Place) (h : Header) (new : List (List ℕ)) → record_in g new place ≡ Some h → is_copy h ≡ false
+    → is_gate_charged (spare_at g new place.page) place.slot ≡ true → committed_in g new place ≡ Some h
 unfolding committed_in is_committed
 committed_there g place h new placed single charged =
     ap (if_committed g new place) placed

@@ -104,16 +104,18 @@ put_ends Content span place header old mid new target one m t shape only reaches
 
     below_at : (page : ℕ) → (page ≡ place.page) ⊎ (page ≢ place.page) → IsAbove (done page) (page_of new page)
     below_at page (inr apart) = subst (λ (row : List ℕ). IsAbove row (page_of new page)) (stays page apart) (above_refl (page_of new page))
-    below_at page (inl same) = subst (λ (q : ℕ). IsAbove (done q) (page_of new q)) (sym same) (subst (λ (row : List ℕ). IsAbove row (page_of new place.page)) (sym (done_here place.page _ mid)) (elim reaches [
-      | inl between ↦ above_trans _ _ _ (charge_target place header old target t) between.below
-      | inr all ↦ subst (IsAbove (charge target (gate_of place old))) (sym all) (above_refl _)
-    ]))
+    below_at page (inl same) =
+        subst (λ (q : ℕ). IsAbove (done q) (page_of new q)) (sym same) (subst (λ (row : List ℕ). IsAbove row (page_of new place.page)) (sym (done_here place.page _ mid)) (elim reaches [
+          | inl between ↦ above_trans _ _ _ (charge_target place header old target t) between.below
+          | inr all ↦ subst (IsAbove (charge target (gate_of place old))) (sym all) (above_refl _)
+        ]))
 
     all_there : is_gated new place ≡ true → page_of new place.page ≡ charge target (gate_of place old)
     all_there gated = elim reaches [
       | inr all ↦ all
       | inl between ↦ (
-          let here : is_gate_charged (drop old.shape.main_bytes (page_of new place.page)) place.slot ≡ true = ap (λ (s : Shape). is_gate_charged (drop s.main_bytes (page_of new place.page)) place.slot) (sym (shape ∙ m.shape)) ∙ gated in
+          let here : is_gate_charged (drop old.shape.main_bytes (page_of new place.page)) place.slot ≡ true =
+          ap (λ (s : Shape). is_gate_charged (drop s.main_bytes (page_of new place.page)) place.slot) (sym (shape ∙ m.shape)) ∙ gated in
           absurd (false≢true (sym (target_gate place header old target t) ∙ keeps (above_drop old.shape.main_bytes _ _ between.below) (128 * place.slot) here)))
     ]
 

@@ -16,7 +16,8 @@ use Rattle.spare_gate.specs.Slots.{with_record}
 use Rattle.page_codec.proofs.PutLaws.{PutsCells}
 
 -- a pad cell is past the main bytes, and in the first or the last byte of a slot, but no gate
-pad_parts : (g : Geometry) (page c : ℕ) → is_pad (shape_of g) page c ≡ true → (8 * g.main_bytes ≤ c) × (((1 ≤ (c - 8 * g.main_bytes) % 128) × ((c - 8 * g.main_bytes) % 128 ≤ 7)) ⊎ (120 ≤ (c - 8 * g.main_bytes) % 128))
+pad_parts : (g : Geometry) (page c : ℕ) → is_pad (shape_of g) page c ≡ true
+    → (8 * g.main_bytes ≤ c) × (((1 ≤ (c - 8 * g.main_bytes) % 128) × ((c - 8 * g.main_bytes) % 128 ≤ 7)) ⊎ (120 ≤ (c - 8 * g.main_bytes) % 128))
 pad_parts g page c e =
     let both = and_parts _ _ e in (
       leb-true _ _ (and_parts _ _ both.0).0,
@@ -61,7 +62,8 @@ put_keeps_pads g place h old new p none page c pad = false_from_ne_true (is_char
     spare_same = elim (cases_eq page place.page) [
       | inr apart ↦ ap (λ (spare : List ℕ). is_charged spare (c - 8 * g.main_bytes)) (p.other_spares page apart)
       | inl here ↦ subst (λ (q : ℕ). is_charged (drop g.main_bytes (p.done q)) (c - 8 * g.main_bytes) ≡ is_charged (spare_at g old q) (c - 8 * g.main_bytes)) (sym here)
-          (ap (λ (spare : List ℕ). is_charged spare (c - 8 * g.main_bytes)) p.record_there ∙ record_pad (spare_at g old place.page) place.slot h (c - 8 * g.main_bytes) p.room (pad_parts g page c pad).1)
+          (ap (λ (spare : List ℕ). is_charged spare (c - 8 * g.main_bytes)) p.record_there
+          ∙ record_pad (spare_at g old place.page) place.slot h (c - 8 * g.main_bytes) p.room (pad_parts g page c pad).1)
     ]
 
     same : is_charged (p.done page) c ≡ is_charged (page_at old page) c

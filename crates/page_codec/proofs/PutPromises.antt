@@ -22,7 +22,8 @@ use Rattle.page_codec.proofs.PutPads.{put_keeps_pads}
 use Rattle.page_codec.proofs.PutCells.{put_cells}
 
 -- by the cells alone
-keeps_cells : (g : Geometry) (place : Place) (h : Header) (old new : List (List ℕ)) → PutsCells g place h old new → IsHeader h → is_gate_charged (spare_at g old place.page) place.slot ≡ false → Keeps g place h old new
+keeps_cells : (g : Geometry) (place : Place) (h : Header) (old new : List (List ℕ)) → PutsCells g place h old new → IsHeader h → is_gate_charged (spare_at g old place.page) place.slot ≡ false
+    → Keeps g place h old new
 keeps_cells g place h old new p header before = record {
   gate = record {
     before = λ after. put_keeps_live g place h old new p before after;

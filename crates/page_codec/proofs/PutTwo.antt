@@ -64,7 +64,8 @@ put_torn Content place header old new further target shape only between spare t 
     | inl same ↦ subst (λ (q : ℕ). IsAbove (done q) (page_of new q)) (sym same) (subst (λ (row : List ℕ). IsAbove row (page_of new (place.page + 1))) (sym second) between.below)
     | inr other ↦ elim (cases_eq page place.page) [
       | inl here ↦ subst (λ (q : ℕ). IsAbove (done q) (page_of new q)) (sym here) (subst (λ (row : List ℕ). IsAbove row (page_of new place.page)) (sym first)
-          (subst (IsAbove (charge target (gate_cell_of old.shape.main_bytes place.slot))) (sym same_first) (above_trans _ _ _ (charge_above target (gate_cell_of old.shape.main_bytes place.slot) (omega (arith, t.page_room))) t.above)))
+          (subst (IsAbove (charge target (gate_cell_of old.shape.main_bytes place.slot))) (sym same_first)
+          (above_trans _ _ _ (charge_above target (gate_cell_of old.shape.main_bytes place.slot) (omega (arith, t.page_room))) t.above)))
       | inr third ↦ subst (λ (row : List ℕ). IsAbove row (page_of new page)) (only.others page other ∙ sym (rest page third other)) (above_refl (page_of new page))
     ]
   ];
@@ -87,7 +88,9 @@ put_torn Content place header old new further target shape only between spare t 
     first = cond-true (place.page == place.page) _ _ (eq-eqb place.page place.page refl)
 
     second : done (place.page + 1) ≡ further
-    second = cond-false (place.page + 1 == place.page) _ _ (ne_eqb (place.page + 1) place.page (λ e. omega arith)) ∙ cond-true (place.page + 1 == place.page + 1) _ _ (eq-eqb (place.page + 1) (place.page + 1) refl)
+    second =
+        cond-false (place.page + 1 == place.page) _ _ (ne_eqb (place.page + 1) place.page (λ e. omega arith))
+        ∙ cond-true (place.page + 1 == place.page + 1) _ _ (eq-eqb (place.page + 1) (place.page + 1) refl)
 
     rest : (page : ℕ) → page ≢ place.page → page ≢ place.page + 1 → done page ≡ page_of old page
     rest page other third = cond-false (page == place.page) _ _ (ne_eqb page place.page other) ∙ cond-false (page == place.page + 1) _ _ (ne_eqb page (place.page + 1) third)

@@ -1,5 +1,6 @@
 -- What a later write of a unit leaves of its pages: other main bytes above the old ones, and a header in a blank slot.
-use Rattle.std.proofs.Common.{◌≡◌, ◌⊎◌, inl, inr, ℕ, ◌+◌, ◌-◌, ◌*◌, ◌/◌, ◌%◌, ◌<◌, ◌≤◌, true, false, List, ◌++◌, drop, take, length, ◌==◌, slice_index, refl, sym, ap, ap₂, ◌∙◌, arith, subst, length-drop}
+use Rattle.std.proofs.Common.{◌≡◌, ◌⊎◌, inl, inr, ℕ, ◌+◌, ◌-◌, ◌*◌, ◌/◌, ◌%◌, ◌<◌, ◌≤◌, true, false, List, ◌++◌, drop, take, length, ◌==◌, slice_index, refl, sym, ap, ap₂, ◌∙◌, arith, subst}
+use Rattle.std.proofs.Common.{length-drop}
 use Rattle.std.specs.Int.{bit_at}
 use Rattle.std.proofs.lemmas.Bool.{cases_lt, and_parts, eqb-true, cond-true, cond-false, eq-eqb, ne_eqb}
 use Rattle.std.proofs.lemmas.List.{take_at, drop_at, length-append, append-nil, get_or_append_left, get_or-append_right, take-append-drop}
@@ -128,7 +129,8 @@ pub single_puts : (place : Place) (header : Header) (old new : DieState) (main :
     → Reaches (page_of old place.page) (page_of new place.page) (with_write old place header main) (gate_cell_of old.shape.main_bytes place.slot)
     → Puts (HasMain old.shape.main_bytes 1 place.page main) 1 place header old new
 single_puts place header old new main w shape only reaches =
-    put_ends (HasMain old.shape.main_bytes 1 place.page main) 1 place header old old new (with_write old place header main) (omega arith) (midway_none place old) (write_target place header old main w) shape only reaches
+    put_ends (HasMain old.shape.main_bytes 1 place.page main) 1 place header old old new (with_write old place header main) (omega arith) (midway_none place old)
+    (write_target place header old main w) shape only reaches
     (append-nil _ ∙ written_main place header old old main w.main_long)
 
 pub single_gated : (place : Place) (header : Header) (old new : DieState) (main : List ℕ) → IsLaterWrite place header old main → new.shape ≡ old.shape
@@ -170,12 +172,14 @@ same_write place header old mid main more m =
 same_gate : (place : Place) (old mid : DieState) (more : List ℕ) → IsMid place old mid more → gate_of place mid ≡ gate_of place old
 same_gate place old mid more m = ap (λ (s : Shape). gate_cell_of s.main_bytes place.slot) m.shape
 
-pub pair_puts : (place : Place) (header : Header) (old mid new : DieState) (main more unit : List ℕ) → IsLaterWrite place header old main → IsFurther place old more → unit ≡ main ++ more → IsMid place old mid more
+pub pair_puts : (place : Place) (header : Header) (old mid new : DieState) (main more unit : List ℕ) → IsLaterWrite place header old main → IsFurther place old more → unit ≡ main ++ more
+    → IsMid place old mid more
     → new.shape ≡ mid.shape → OnlyPage place.page mid new
     → Reaches (page_of mid place.page) (page_of new place.page) (with_write mid place header main) (gate_cell_of mid.shape.main_bytes place.slot)
     → Puts (HasMain old.shape.main_bytes 2 place.page unit) 2 place header old new
 pair_puts place header old mid new main more unit w f parts m shape only reaches =
-    put_ends (HasMain old.shape.main_bytes 2 place.page unit) 2 place header old mid new (with_write old place header main) (omega arith) (midway place old mid more f m) (write_target place header old main w) shape only
+    put_ends (HasMain old.shape.main_bytes 2 place.page unit) 2 place header old mid new (with_write old place header main) (omega arith) (midway place old mid more f m)
+    (write_target place header old main w) shape only
     (subst (λ (t : List ℕ). Reaches (page_of mid place.page) (page_of new place.page) t (gate_of place old)) (same_write place header old mid main more m)
     (subst (Reaches (page_of mid place.page) (page_of new place.page) (with_write mid place header main)) (same_gate place old mid more m) reaches))
     (ap₂ (λ (x y : List ℕ). x ++ y) (written_main place header old mid main w.main_long) (append-nil _ ∙ second)

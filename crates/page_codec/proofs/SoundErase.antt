@@ -1,5 +1,6 @@
 -- A torn erase of a block without a live record leaves sound cells that stand for the same sectors.
-use Rattle.std.proofs.Common.{◌≡◌, ◌≢◌, inl, inr, ℕ, zero, suc, ◌+◌, ◌*◌, ◌/◌, ◌%◌, ◌<◌, ◌≤◌, Bool, true, false, List, ◌++◌, map, take, drop, ◌==◌, if◌then◌else◌, Option, Some, None, refl, sym, ap, ap₂, ◌∙◌, arith, subst}
+use Rattle.std.proofs.Common.{◌≡◌, ◌≢◌, inl, inr, ℕ, zero, suc, ◌+◌, ◌*◌, ◌/◌, ◌%◌, ◌<◌, ◌≤◌, Bool, true, false, List, ◌++◌, map, take, drop, ◌==◌, if◌then◌else◌, Option, Some, None, refl, sym}
+use Rattle.std.proofs.Common.{ap, ap₂, ◌∙◌, arith, subst}
 use Rattle.std.specs.List.{count_by, flat_map, range_with_len}
 use Rattle.std.proofs.lemmas.Bool.{cases_eq, and_parts, or_cases, eqb-true, ltb-true, false≢true, eq-eqb}
 use Rattle.std.proofs.lemmas.Nat.{div-mul-add, div-add-mod'}
@@ -39,7 +40,8 @@ falls g old new block t = record { others = t.others; fell = t.fell; old_bytes =
 pub tear_keeps_live : (g : Geometry) (old new : List (List ℕ)) (block : ℕ) → TearsBlock g old new block → (sector : ℕ) → live_record g new sector ≡ live_record g old sector
 tear_keeps_live g old new block t sector = fall_keeps g old new block (falls g old new block t) t.pages t.slots sector (t.free sector)
 
-word_fell : (g : Geometry) (old new : List (List ℕ)) (block : ℕ) → TearsBlock g old new block → (page slot : ℕ) → block_of g page ≡ block → IsAbove (word_at (spare_at g old page) slot) (word_at (spare_at g new page) slot)
+word_fell : (g : Geometry) (old new : List (List ℕ)) (block : ℕ) → TearsBlock g old new block → (page slot : ℕ) → block_of g page ≡ block
+    → IsAbove (word_at (spare_at g old page) slot) (word_at (spare_at g new page) slot)
 word_fell g old new block t page slot e = above_take _ _ _ (above_drop (16 * slot + 1) _ _ (above_drop g.main_bytes _ _ (t.fell page e)))
 
 -- a valid header after the tear stood there before it
@@ -104,7 +106,8 @@ unit_page_from_slot g place h n = elim (or_cases _ _ (and_parts _ _ h).1) [
 ]
 
 -- a record outside the block says what it said
-said_same : (g : Geometry) (d : Decoding) (old new : List (List ℕ)) (block : ℕ) → TearsBlock g old new block → 0 < g.span → (x : Placed) → committed_in g old x.place ≡ Some x.header → block_of g x.place.page ≢ block
+said_same : (g : Geometry) (d : Decoding) (old new : List (List ℕ)) (block : ℕ) → TearsBlock g old new block → 0 < g.span → (x : Placed) → committed_in g old x.place ≡ Some x.header
+    → block_of g x.place.page ≢ block
     → said_by g d new (Some x) ≡ said_by g d old (Some x)
 said_same g d old new block t spans x counted apart = at (x.place.slot == 0) refl
   where

@@ -52,7 +52,12 @@ unfolding live_count
 gate_keeps_sound g old place h within w sound block in_range free apart = record {
   below_valid = λ page slot p q. let s = sound.below_valid page slot p q in (s.0, s.1, subst (IsAbove s.0) (sym (word_kept g old place within page slot)) s.2);
   seqs_differ = λ a b j k e f. sound.seqs_differ a b j k (was a j e) (was b k f);
-  one_free = (block, in_range, none_counted (λ s. stands_in g block (live_record g (gated g old place) s)) 0 g.sectors (λ k l. at (0 + k) (cases_eq (0 + k) h.sector) (count_none (λ s. stands_in g block (live_record g old s)) 0 g.sectors k free l)));
+  one_free = (
+    block,
+    in_range,
+    none_counted (λ s. stands_in g block (live_record g (gated g old place) s)) 0 g.sectors
+        (λ k l. at (0 + k) (cases_eq (0 + k) h.sector) (count_none (λ s. stands_in g block (live_record g old s)) 0 g.sectors k free l)),
+  );
   small_seqs = λ other k e. sound.small_seqs other k (was other k e);
 }
   where
@@ -60,5 +65,6 @@ gate_keeps_sound g old place h within w sound block in_range free apart = record
     was other k e = ap header_of (sym (word_kept g old place within other.page other.slot)) ∙ e
 
     at : (s : ℕ) → (s ≡ h.sector) ⊎ (s ≡ h.sector → ⊥) → stands_in g block (live_record g old s) ≡ false → stands_in g block (live_record g (gated g old place) s) ≡ false
-    at s (inl same) e = ap (λ (t : ℕ). stands_in g block (live_record g (gated g old place) t)) same ∙ (ap (stands_in g block) (gate_wins g old place h within w).live ∙ ne_eqb (block_of g place.page) block apart)
+    at s (inl same) e =
+        ap (λ (t : ℕ). stands_in g block (live_record g (gated g old place) t)) same ∙ (ap (stands_in g block) (gate_wins g old place h within w).live ∙ ne_eqb (block_of g place.page) block apart)
     at s (inr other) e = ap (stands_in g block) ((gate_wins g old place h within w).others s other) ∙ e

@@ -45,7 +45,8 @@ same_tests true false f k = sym (f refl)
 same_tests false true f k = k refl
 same_tests false false f k = refl
 
-gate_same : (g : Geometry) (old new : List (List ℕ)) (place : Place) (h : Header) → TearsProgram g old new place h → (slot : ℕ) → is_gate_charged (spare_at g new place.page) slot ≡ is_gate_charged (spare_at g old place.page) slot
+gate_same : (g : Geometry) (old new : List (List ℕ)) (place : Place) (h : Header) → TearsProgram g old new place h → (slot : ℕ)
+    → is_gate_charged (spare_at g new place.page) slot ≡ is_gate_charged (spare_at g old place.page) slot
 gate_same g old new place h t slot = same_tests _ _
     (λ e. sym (t.gates slot) ∙ keeps (above_drop g.main_bytes _ _ t.below) (128 * slot) e)
     (λ e. keeps (above_drop g.main_bytes _ _ t.rises) (128 * slot) e)
@@ -58,7 +59,8 @@ seal_same g old new place h t = same_tests _ _
 word_above : (m slot : ℕ) (new old : List ℕ) → IsAbove new old → IsAbove (word_at (drop m new) slot) (word_at (drop m old) slot)
 word_above m slot new old f = above_take _ _ _ (above_drop (16 * slot + 1) _ _ (above_drop m _ _ f))
 
-word_same : (g : Geometry) (old new : List (List ℕ)) (place : Place) (h : Header) → TearsProgram g old new place h → (slot : ℕ) → slot ≢ place.slot → word_at (spare_at g new place.page) slot ≡ word_at (spare_at g old place.page) slot
+word_same : (g : Geometry) (old new : List (List ℕ)) (place : Place) (h : Header) → TearsProgram g old new place h → (slot : ℕ) → slot ≢ place.slot
+    → word_at (spare_at g new place.page) slot ≡ word_at (spare_at g old place.page) slot
 word_same g old new place h t slot apart =
     above_both _ _
     (bytes_take _ _ (bytes_drop (16 * slot + 1) _ (bytes_drop g.main_bytes _ (t.shape.small place.page))))
@@ -100,7 +102,8 @@ header_after g old new place h t other k e = elim (cases_eq other.page place.pag
     at_page : other.page ≡ place.page → (header_in g old other ≡ Some k) ⊎ ((other ≡ place) × (k ≡ h))
     at_page p = elim (cases_eq other.slot place.slot) [
       | inl s ↦ inr ((λ i. record { page = p i; slot = s i }), own p s)
-      | inr apart ↦ inl (ap header_of (ap (λ (q : ℕ). word_at (spare_at g old q) other.slot) p ∙ (sym (word_same g old new place h t other.slot apart) ∙ ap (λ (q : ℕ). word_at (spare_at g new q) other.slot) (sym p))) ∙ e)
+      | inr apart ↦ inl (ap header_of (ap (λ (q : ℕ). word_at (spare_at g old q) other.slot) p
+          ∙ (sym (word_same g old new place h t other.slot apart) ∙ ap (λ (q : ℕ). word_at (spare_at g new q) other.slot) (sym p))) ∙ e)
     ]
 
 -- the cells are still sound
@@ -119,7 +122,12 @@ tear_leaves_sound g old new place h t = record {
     below page slot p s = elim (cases_eq page place.page) [
       | inr apart ↦ (let w = t.sound.below_valid page slot p s in (w.0, w.1, subst (λ (bytes : List ℕ). IsAbove w.0 (word_at (drop g.main_bytes bytes) slot)) (sym (t.others page apart)) w.2))
       | inl here ↦ elim (cases_eq slot place.slot) [
-        | inl own ↦ (spelling h, spelled_valid h t.header, subst (λ (q : ℕ). IsAbove (spelling h) (word_at (spare_at g new q) slot)) (sym here) (subst (λ (r : ℕ). IsAbove (spelling h) (word_at (spare_at g new place.page) r)) (sym own) (own_word_below g old new place h t)))
+        | inl own ↦ (
+          spelling h,
+          spelled_valid h t.header,
+          subst (λ (q : ℕ). IsAbove (spelling h) (word_at (spare_at g new q) slot)) (sym here)
+              (subst (λ (r : ℕ). IsAbove (spelling h) (word_at (spare_at g new place.page) r)) (sym own) (own_word_below g old new place h t)),
+        )
         | inr apart ↦ (let w = t.sound.below_valid page slot p s in (
           w.0,
           w.1,

@@ -22,7 +22,8 @@ header_valid word h e = at _ (is_valid word) refl e
     at k false l m = absurd (none-some h m)
 
 -- a page of the die with a header in a slot of it
-pub header_within : (g : Geometry) (cells : List (List ℕ)) (place : Place) (h : Header) → HasShape (shape_of g) cells → header_in g cells place ≡ Some h → (place.page < page_count g) × (place.slot < g.generations)
+pub header_within : (g : Geometry) (cells : List (List ℕ)) (place : Place) (h : Header) → HasShape (shape_of g) cells → header_in g cells place ≡ Some h
+    → (place.page < page_count g) × (place.slot < g.generations)
 header_within g cells place h s e = elim (cases_lt place.page (page_count g)) [
   | inl within ↦ (within, omega (arith, room, s.bytes place.page within))
   | inr past ↦ absurd (omega (arith, room, ap (length {A = ℕ}) (get_or_past cells place.page [] (subst (λ (n : ℕ). n ≤ place.page) (sym s.pages) past))))

@@ -1,6 +1,7 @@
 -- Words that are made of words by masks, shifts and bitwise operations: each bit of such a word is a formula in
 -- bits of the given words, which is computed. So a claim on sixteen chunks side by side is one of sixteen formulas.
-use Rattle.std.proofs.Common.{◌≡◌, ℕ, zero, suc, ◌+◌, ◌-◌, ◌*◌, ◌/◌, ◌%◌, ◌^◌, ◌<◌, ◌≤◌, ◌==◌, Bool, true, false, ◌&&◌, ◌||◌, cond, List, [], ◌∷◌, map, get_or, bit_and, bit_or, bit_xor, min, max, eqb, ltb, sym, ◌∙◌, ap, ap₂, refl, inl, inr, arith}
+use Rattle.std.proofs.Common.{◌≡◌, ℕ, zero, suc, ◌+◌, ◌-◌, ◌*◌, ◌/◌, ◌%◌, ◌^◌, ◌<◌, ◌≤◌, ◌==◌, Bool, true, false, ◌&&◌, ◌||◌, cond, List, [], ◌∷◌, map, get_or, bit_and, bit_or, bit_xor, min, max}
+use Rattle.std.proofs.Common.{eqb, ltb, sym, ◌∙◌, ap, ap₂, refl, inl, inr, arith}
 use Rattle.std.specs.Int.{bit_at}
 use Rattle.std.specs.List.{range_with_len}
 use Rattle.std.proofs.lemmas.Bool.{cases_Bool, cases_lt, cond-true, cond-false, eqb-true, eqb-false, lt-ltb, le-ltb, false≢true}

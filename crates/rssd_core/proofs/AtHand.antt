@@ -141,12 +141,16 @@ module _ (g : Geometry) (d : Decoding) (page : ℕ) (h : Header) (row : List ℕ
   pub effect_block : (entry : Entry) → (place_of entry).page ≡ page → block_in old.book entry ≡ p.block
   effect_block entry at = ap (λ (q : ℕ). q / old.book.pages) at ∙ page_block old.book.pages p.tables.sizes.pages
 
-  effect_book : (entry : Entry) → (place_of entry).page ≡ page → after_record old.book (block_in old.book entry) (former_in old.book (entry_at old.table h.sector)) ≡ filled (recorded old.book p.block (former_in old.book (entry_at old.table h.sector))) p.block
+  effect_book : (entry : Entry) → (place_of entry).page ≡ page
+      → after_record old.book (block_in old.book entry) (former_in old.book (entry_at old.table h.sector))
+      ≡ filled (recorded old.book p.block (former_in old.book (entry_at old.table h.sector))) p.block
   effect_book entry at =
       ap (λ (b : ℕ). after_record old.book b (former_in old.book (entry_at old.table h.sector))) (effect_block entry at)
-      ∙ ap (λ (s : State). if is_active s then filled (recorded old.book p.block (former_in old.book (entry_at old.table h.sector))) p.block else recorded old.book p.block (former_in old.book (entry_at old.table h.sector))) p.active
+      ∙ ap (λ (s : State). if is_active s then filled (recorded old.book p.block (former_in old.book (entry_at old.table h.sector))) p.block else recorded old.book p.block
+      (former_in old.book (entry_at old.table h.sector))) p.active
 
-  module _ (gated : is_gate_charged (drop g.main_bytes (page_of new page)) 0 ≡ true) (entry : Entry) (names : entry_of (Some (record { place = first_slot page; header = h })) ≡ Some entry) (at : (place_of entry).page ≡ page) where
+  module _ (gated : is_gate_charged (drop g.main_bytes (page_of new page)) 0 ≡ true) (entry : Entry) (names : entry_of (Some (record { place = first_slot page; header = h })) ≡ Some entry)
+      (at : (place_of entry).page ≡ page) where
     charged : next_gate g p.block p.fill new.cells ≡ true
     charged = subst (λ (q : ℕ). is_gate_charged (drop g.main_bytes (page_of new q)) 0 ≡ true) p.page_is gated
 
@@ -162,7 +166,8 @@ module _ (g : Geometry) (d : Decoding) (page : ℕ) (h : Header) (row : List ℕ
     effect_drops = former_true g old.die.cells old.book old.table old.seq p.tables h.sector p.next.sector p.sized.pages
 
     -- the put and its record effect
-    pub put_next : Passed 2 0 old.die new → PutNext g d page h row old (store new (slice_set old.table h.sector (Some entry)) (after_record old.book (block_in old.book entry) (former_in old.book (entry_at old.table h.sector))) (old.seq + 1))
+    pub put_next : Passed 2 0 old.die new → PutNext g d page h row old
+        (store new (slice_set old.table h.sector (Some entry)) (after_record old.book (block_in old.book entry) (former_in old.book (entry_at old.table h.sector))) (old.seq + 1))
     put_next passed = record {
       block = p.block;
       fill = p.fill;

@@ -76,7 +76,8 @@ pub stands_here : (g : Geometry) (block : ℕ) (o : Option Placed) (placed : Pla
 stands_here g block o placed is here = ap (stands_in g block) is ∙ eq-eqb (block_of g placed.place.page) block here
 
 -- a block without a live record
-pub none_stands : (g : Geometry) (cells : List (List ℕ)) (block : ℕ) → live_count g cells block ≡ 0 → (sector : ℕ) (placed : Placed) → sector < g.sectors → live_record g cells sector ≡ Some placed → block_of g placed.place.page ≢ block
+pub none_stands : (g : Geometry) (cells : List (List ℕ)) (block : ℕ) → live_count g cells block ≡ 0 → (sector : ℕ) (placed : Placed) → sector < g.sectors → live_record g cells sector ≡ Some placed
+    → block_of g placed.place.page ≢ block
 unfolding live_count
 none_stands g cells block free sector placed within is here =
     false≢true (sym (none_passes (λ s. stands_in g block (live_record g cells s)) g.sectors free sector within) ∙ stands_here g block (live_record g cells sector) placed is here)
@@ -92,14 +93,17 @@ still_free g old new block stays free = none_pass (λ s. stands_in g block (live
 
 -- ---- the states
 
-spare_stays : (g : Geometry) (old new : List (List ℕ)) (block page slot : ℕ) → BlockStays g old new block → block_of g page ≡ block → is_slot_blank (spare_at g old page) slot ≡ true → is_slot_blank (spare_at g new page) slot ≡ true
+spare_stays : (g : Geometry) (old new : List (List ℕ)) (block page slot : ℕ) → BlockStays g old new block → block_of g page ≡ block → is_slot_blank (spare_at g old page) slot ≡ true
+    → is_slot_blank (spare_at g new page) slot ≡ true
 spare_stays g old new block page slot stays here h = subst (λ (bytes : List ℕ). is_slot_blank (drop g.main_bytes bytes) slot ≡ true) (sym (stays.pages page here)) h
 
-page_stays : (g : Geometry) (old new : List (List ℕ)) (block i : ℕ) → BlockStays g old new block → i < g.pages → is_blank (page_at old (block * g.pages + i)) ≡ true → is_blank (page_at new (block * g.pages + i)) ≡ true
+page_stays : (g : Geometry) (old new : List (List ℕ)) (block i : ℕ) → BlockStays g old new block → i < g.pages → is_blank (page_at old (block * g.pages + i)) ≡ true
+    → is_blank (page_at new (block * g.pages + i)) ≡ true
 page_stays g old new block i stays within h = subst (λ (bytes : List ℕ). is_blank bytes ≡ true) (sym (stays.pages (block * g.pages + i) (block_of_page g block i within))) h
 
 above_stays : (g : Geometry) (old new : List (List ℕ)) (block level : ℕ) → IsSized g → BlockStays g old new block → BlankAbove g old block level → BlankAbove g new block level
-above_stays g old new block level sized stays h u slot within above few = spare_stays g old new block (unit_page g block u) slot stays (block_of_unit g block u sized.span within) (h u slot within above few)
+above_stays g old new block level sized stays h u slot within above few =
+    spare_stays g old new block (unit_page g block u) slot stays (block_of_unit g block u sized.span within) (h u slot within above few)
 
 pub state_stays : (g : Geometry) (old new : List (List ℕ)) (block : ℕ) (s : State) → IsSized g → BlockStays g old new block → IsTrueState g old block s → IsTrueState g new block s
 state_stays g old new block Clean sized stays h = blank_block g new block (λ i within. page_stays g old new block i stays within (block_blank g old block h i within))

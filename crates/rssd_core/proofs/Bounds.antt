@@ -50,7 +50,8 @@ gets_few g some (Some placed) = at (says_zeros placed.header) (placed.place.slot
 weighed : (p : ℕ → Bool) (w : ℕ → ℕ) (m : ℕ) → ((k : ℕ) → w k ≤ m) → (xs : List ℕ) → sum_by (λ k. if p k then w k else 0) xs ≤ count_by p xs * m
 weighed p w m few [] = omega arith
 weighed p w m few (x ∷ xs) =
-    let sum : sum_by (λ k. if p k then w k else 0) (x ∷ xs) ≡ (if p x then w x else 0) + sum_by (λ k. if p k then w k else 0) xs = (let e = sum_by-append (λ k. if p k then w k else 0) (x ∷ []) xs in omega (arith, e)) in
+    let sum : sum_by (λ k. if p k then w k else 0) (x ∷ xs) ≡ (if p x then w x else 0) + sum_by (λ k. if p k then w k else 0) xs =
+    (let e = sum_by-append (λ k. if p k then w k else 0) (x ∷ []) xs in omega (arith, e)) in
     let count : count_by p (x ∷ xs) ≡ cond (p x) 1 0 + count_by p xs = (let e = count_by-append p (x ∷ []) xs in omega (arith, e)) in
     subst (λ (n : ℕ). sum_by (λ k. if p k then w k else 0) (x ∷ xs) ≤ n * m) (sym count)
     (subst (λ (n : ℕ). n ≤ (cond (p x) 1 0 + count_by p xs) * m) (sym sum) (at (p x) (sum_by (λ k. if p k then w k else 0) xs) (count_by p xs) (weighed p w m few xs)))
@@ -69,7 +70,8 @@ module _ (d : Numbers) (view : DeviceView) (next : NextPage) (sized : IsSized d.
   next_here = next_is view.book t.tables.kept t.tables.one_spare next is
 
   live_few : (victim spare : ℕ) → IsCollectBranch view.book victim spare → live_at view.book victim < d.geometry.pages
-  live_few victim spare branch = victim_has_room d.geometry view.die.cells view.book (live_map d.geometry view.die.cells) view.seq victim spare t.tables branch (let two = sized.two_blocks in omega (arith, two)) room
+  live_few victim spare branch =
+      victim_has_room d.geometry view.die.cells view.book (live_map d.geometry view.die.cells) view.seq victim spare t.tables branch (let two = sized.two_blocks in omega (arith, two)) room
 
   calls_few : (n : NextPage) → IsNext view.book n → calls_before view.book n + 2 ≤ most_changes d.geometry
   calls_few (Page page) branch = let some = sized.pages in omega (arith, some)
@@ -86,11 +88,13 @@ module _ (d : Numbers) (view : DeviceView) (next : NextPage) (sized : IsSized d.
       let live = live_few victim spare branch in
       let inside : victim < d.geometry.blocks = subst (λ (n : ℕ). victim < n) t.tables.sizes.blocks (closed_within view.book victim branch.1.closed) in
       let counted = t.tables.live_counts victim inside in
-      let sum = weighed (λ sector. stands_in d.geometry victim (live_record d.geometry view.die.cells sector)) (λ sector. get_reads d.geometry (live_record d.geometry view.die.cells sector)) d.geometry.span
+      let sum =
+      weighed (λ sector. stands_in d.geometry victim (live_record d.geometry view.die.cells sector)) (λ sector. get_reads d.geometry (live_record d.geometry view.die.cells sector)) d.geometry.span
       (λ sector. gets_few d.geometry sized.span (live_record d.geometry view.die.cells sector)) (range_with_len 0 d.geometry.sectors) in
       let few : live_at view.book victim ≤ d.geometry.pages - 1 = omega (arith, live) in
       let product : live_at view.book victim * d.geometry.span ≤ (d.geometry.pages - 1) * d.geometry.span = mul-le-mul_right d.geometry.span few in
-      let all : count_by (λ sector. stands_in d.geometry victim (live_record d.geometry view.die.cells sector)) (range_with_len 0 d.geometry.sectors) * d.geometry.span ≤ (d.geometry.pages - 1) * d.geometry.span =
+      let all : count_by (λ sector. stands_in d.geometry victim (live_record d.geometry view.die.cells sector)) (range_with_len 0 d.geometry.sectors) * d.geometry.span ≤
+      (d.geometry.pages - 1) * d.geometry.span =
       subst (λ (n : ℕ). n * d.geometry.span ≤ (d.geometry.pages - 1) * d.geometry.span) counted product in
       omega (arith, sum, all)
 

@@ -66,7 +66,9 @@ within_trans c r d s old mid new first then = record {
   read_faults = then.read_faults ∙ first.read_faults;
   change_faults = then.change_faults ∙ first.change_faults;
   failures = while_within c r d s old.failures mid.failures new.failures first.failures then.failures;
-  changed = told_trans (IsChanged c old mid) (IsChanged d mid new) (IsChanged (c + d) old new) (NearerWithin c r) (λ a b near. near.powered) (changed_trans c d old mid new) old.failures mid.failures new.failures first.failures first.changed then.changed;
+  changed =
+      told_trans (IsChanged c old mid) (IsChanged d mid new) (IsChanged (c + d) old new) (NearerWithin c r) (λ a b near. near.powered)
+      (changed_trans c d old mid new) old.failures mid.failures new.failures first.failures first.changed then.changed;
 }
 
 pub went_trans : (c r d s : ℕ) (Bounded : Type 0) (old mid new : DieState) → Went c r Bounded old mid → Passed d s mid new → Went (c + d) (r + s) Bounded old new

@@ -125,7 +125,8 @@ module _ (g : Geometry) (d : Decoding) (victim spare : ℕ) (old new : Store) (t
   none_plus n = omega arith
 
   -- a collection that was sealed
-  pub opened_collect : (page : ℕ) → Erased (erased_in (state_at old.book spare) spare) old.die new.die → Collected g d victim spare old new → page ≡ spare * old.book.pages + live_at old.book victim → Opened g d page (live_at old.book victim) old new
+  pub opened_collect : (page : ℕ) → Erased (erased_in (state_at old.book spare) spare) old.die new.die → Collected g d victim spare old new → page ≡ spare * old.book.pages + live_at old.book victim
+      → Opened g d page (live_at old.book victim) old new
   opened_collect page erased_so c at = record {
     changes = Seals victim spare ∷ [];
     leads = λ r. leads_one r old.book new.book (Seals victim spare) (next, c.book);

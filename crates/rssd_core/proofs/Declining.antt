@@ -30,11 +30,13 @@ use Rattle.rssd_core.proofs.Rules.{offer_is}
 use Rattle.rssd_core.proofs.WroteFirst.{view_at, moves_seq}
 
 -- a unit that declines is offered, and none of it carries the sector
-pub offer_declines : (d : Numbers) (unit : ReuseUnit) (bytes : List ℕ) (old start : Store) (first second declined moved : ℕ) → IsOffer old.book unit → OverDeclined d.geometry d.meaning.decoding unit bytes old start
+pub offer_declines : (d : Numbers) (unit : ReuseUnit) (bytes : List ℕ) (old start : Store) (first second declined moved : ℕ) → IsOffer old.book unit
+    → OverDeclined d.geometry d.meaning.decoding unit bytes old start
     → OfferDeclines d (view_at old first second declined moved) bytes
 offer_declines d unit bytes old start first second declined moved offer o = (unit, offer_is old.book unit offer, λ carries. o.none carries.0 carries.1 carries.2)
 
-pub declines_not : (d : Numbers) (unit : ReuseUnit) (bytes : List ℕ) (old start : Store) (first second declined moved : ℕ) → IsOffer old.book unit → OverDeclined d.geometry d.meaning.decoding unit bytes old start
+pub declines_not : (d : Numbers) (unit : ReuseUnit) (bytes : List ℕ) (old start : Store) (first second declined moved : ℕ) → IsOffer old.book unit
+    → OverDeclined d.geometry d.meaning.decoding unit bytes old start
     → OfferCarries d (view_at old first second declined moved) bytes → ⊥
 declines_not d unit bytes old start first second declined moved offer o carries =
     let same : unit ≡ carries.0 = same_Some unit carries.0 (sym (offer_is old.book unit offer) ∙ carries.1) in
@@ -74,7 +76,8 @@ module _ (d : Numbers) (unit : ReuseUnit) (bytes : List ℕ) (old start : Store)
   leads_pass r changes w then = leads_append r old.book start.book w (Passes unit ∷ []) changes (leads_one r old.book start.book (Passes unit) (offer_is old.book unit offer, book_is)) then
 
   once_pass : (changes : List Change) → EachOnce changes → EachOnce (Passes unit ∷ changes)
-  once_pass changes once = record { takes = omega (arith, once.takes); wipes = omega (arith, once.wipes); erases = omega (arith, once.erases); copies = omega (arith, once.copies); seals = omega (arith, once.seals) }
+  once_pass changes once =
+      record { takes = omega (arith, once.takes); wipes = omega (arith, once.wipes); erases = omega (arith, once.erases); copies = omega (arith, once.copies); seals = omega (arith, once.seals) }
 
   -- a page that came to hand after it
   pub declined_opened : (page rise : ℕ) (mid : Store) → Opened d.geometry d.meaning.decoding page rise start mid → OpenedAfter d.geometry d.meaning.decoding 1 d.geometry.span page rise old mid
@@ -96,10 +99,13 @@ module _ (d : Numbers) (unit : ReuseUnit) (bytes : List ℕ) (old start : Store)
     tables = p.tables;
     calls = record {
       within = subst (λ (r : ℕ). PassedWithin (calls_before old.book (next_page old.book)) r old.die mid.die) (plus d.geometry.span)
-          (subst (λ (c : ℕ). PassedWithin c (d.geometry.span + (0 + collection_reads d.geometry old.die.cells (next_page old.book))) old.die mid.die) (none_plus (calls_before old.book (next_page old.book)))
-          (within_trans 0 d.geometry.span (calls_before old.book (next_page old.book)) (0 + collection_reads d.geometry old.die.cells (next_page old.book)) old.die start.die mid.die (passed_within d.geometry.span (omega arith) o.calls) went.within));
+          (subst (λ (c : ℕ). PassedWithin c (d.geometry.span + (0 + collection_reads d.geometry old.die.cells (next_page old.book))) old.die mid.die)
+          (none_plus (calls_before old.book (next_page old.book)))
+          (within_trans 0 d.geometry.span (calls_before old.book (next_page old.book)) (0 + collection_reads d.geometry old.die.cells (next_page old.book)) old.die start.die mid.die
+          (passed_within d.geometry.span (omega arith) o.calls) went.within));
       exact = λ free. subst (λ (r : ℕ). Passed (calls_before old.book (next_page old.book)) r old.die mid.die) (plus d.geometry.span)
-          (subst (λ (c : ℕ). Passed c (d.geometry.span + (0 + collection_reads d.geometry old.die.cells (next_page old.book))) old.die mid.die) (none_plus (calls_before old.book (next_page old.book))) (passed_trans o.calls (went.exact free)));
+          (subst (λ (c : ℕ). Passed c (d.geometry.span + (0 + collection_reads d.geometry old.die.cells (next_page old.book))) old.die mid.die)
+          (none_plus (calls_before old.book (next_page old.book))) (passed_trans o.calls (went.exact free)));
     };
   }
     where
@@ -110,7 +116,8 @@ module _ (d : Numbers) (unit : ReuseUnit) (bytes : List ℕ) (old start : Store)
       plus n = omega arith
 
       went : Went (calls_before old.book (next_page old.book)) (0 + collection_reads d.geometry old.die.cells (next_page old.book)) (IsCollect (next_page old.book)) start.die mid.die
-      went = subst (λ (n : NextPage). Went (calls_before old.book (next_page old.book)) (0 + collection_reads d.geometry old.die.cells (next_page old.book)) (IsCollect n) start.die mid.die) next_is_same
+      went =
+          subst (λ (n : NextPage). Went (calls_before old.book (next_page old.book)) (0 + collection_reads d.geometry old.die.cells (next_page old.book)) (IsCollect n) start.die mid.die) next_is_same
           (subst (λ (r : ℕ). Went (calls_before old.book (next_page old.book)) (0 + r) (IsCollect (next_page start.book)) start.die mid.die) reads_are
           (subst (λ (c : ℕ). Went c (0 + collection_reads d.geometry start.die.cells (next_page start.book)) (IsCollect (next_page start.book)) start.die mid.die) calls_are p.calls))
 
@@ -150,7 +157,9 @@ module _ (d : Numbers) (unit : ReuseUnit) (bytes : List ℕ) (old start : Store)
     none_sealed = sealed_are f.changes ∙ f.none_sealed;
     rows = λ sound. f.rows (subst (IsSound d.geometry) (sym o.cells.cells) sound) ∙ ap (stored d.geometry d.meaning.decoding) o.cells.cells;
     few = omega (arith, f.few, seq_is);
-    erased = failed_after (erase_due old.book (next_page old.book)) d.geometry.span old.die start.die new.die o.cells.erases o.calls (subst (λ (due : Option ℕ). ErasedOrFailed due 0 start.die new.die) due_is f.erased);
+    erased =
+        failed_after (erase_due old.book (next_page old.book)) d.geometry.span old.die start.die new.die o.cells.erases o.calls
+        (subst (λ (due : Option ℕ). ErasedOrFailed due 0 start.die new.die) due_is f.erased);
     failed = failed_calls (λ c r. ChangeFailed c r old.die new.die) (change_failed_after o.calls f.failed);
   }
 
@@ -186,7 +195,9 @@ over_read_failed d sector unit bytes old new book first second declined moved fr
     tally = omega arith;
     at_cut = λ power came. absurd (read_failed_no_cut 0 d.geometry.span old.die new.die f.failed power came);
   };
-  seq = moves_seq d old new (view_at old first second declined moved) (view_at (record new { book = book }) first second declined moved) refl refl refl refl holds (omega (arith, ap (λ (s : Store). s.seq) f.same));
+  seq =
+      moves_seq d old new (view_at old first second declined moved) (view_at (record new { book = book }) first second declined moved) refl refl refl refl holds
+      (omega (arith, ap (λ (s : Store). s.seq) f.same));
   counts = record { first = refl; second = refl; declined = refl };
 }
 

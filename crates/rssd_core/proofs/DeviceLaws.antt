@@ -76,7 +76,8 @@ device_read {C = C} meaning {old = old} {new = new} {reuse_max = reuse_max} {tal
     (record { cells = cells; rest = ap (λ (x : Held C). device_of meaning (parts_of x reuse_max tallies)) same })
 
 -- what is set of the die alone is set of the device's
-pub device_told : {C : Type 0} (meaning : C → Meaning) (change : DieState → DieState) {old new : Held C} {reuse_max : ℕ} {tallies : Tallies} {before : Parts C} → parts_of old reuse_max tallies ≡ before
+pub device_told : {C : Type 0} (meaning : C → Meaning) (change : DieState → DieState) {old new : Held C} {reuse_max : ℕ} {tallies : Tallies} {before : Parts C}
+    → parts_of old reuse_max tallies ≡ before
     → new ≡ on_die change old → device_of meaning (parts_of new reuse_max tallies) ≡ with_die change (device_of meaning before)
 device_told {C = C} meaning change {new = new} {reuse_max = reuse_max} {tallies = tallies} is same =
     subst (λ (p : Parts C). device_of meaning (parts_of new reuse_max tallies) ≡ with_die change (device_of meaning p)) is

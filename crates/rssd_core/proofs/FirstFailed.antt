@@ -38,7 +38,8 @@ put_failed d sector page rise kind passed before bytes old mid new first second 
       over = λ carries. absurd (cannot carries);
       clean = λ _. (omega arith, omega (arith, few_before));
     };
-    failed = change_failed_then (calls_before old.book (next_page old.book)) (before + collection_reads d.geometry old.die.cells (next_page old.book)) 2 0 old.die mid.die new.die o.calls.within f.failed;
+    failed =
+        change_failed_then (calls_before old.book (next_page old.book)) (before + collection_reads d.geometry old.die.cells (next_page old.book)) 2 0 old.die mid.die new.die o.calls.within f.failed;
     rows = λ sound. elim f.rows [ inl same ↦ inl (same ∙ o.rows) | inr done ↦ inr (done ∙ ap (λ (rows : List (List ℕ)). slice_set rows sector bytes) o.rows) ];
     stopped = refl;
   });
@@ -56,15 +57,19 @@ put_failed d sector page rise kind passed before bytes old mid new first second 
         ∙ sym (ap (λ (t : Bool). if t then live_at old.book victim else 0) (lt-ltb (collection_calls old.book (next_page old.book)) (cut_of old.die)
         (subst (λ (n : NextPage). collection_calls old.book n < cut_of old.die) (sym is)
         (subst (λ (n : NextPage). calls_before old.book n < cut_of old.die) is
-        (cut_later (calls_before old.book (next_page old.book)) (before + collection_reads d.geometry old.die.cells (next_page old.book)) 2 0 old.die mid.die new.die o.calls.within f.failed power came)))));
+        (cut_later (calls_before old.book (next_page old.book))
+        (before + collection_reads d.geometry old.die.cells (next_page old.book)) 2 0 old.die mid.die new.die o.calls.within f.failed power came)))));
   };
-  seq = moves_seq d old new (view_at old first second declined moved) (view_at new first second declined (count_sum moved rise)) refl refl refl refl holds (omega (arith, o.few, ap (λ (s : Store). s.seq) f.same));
+  seq =
+      moves_seq d old new (view_at old first second declined moved) (view_at new first second declined (count_sum moved rise)) refl refl refl refl holds
+      (omega (arith, o.few, ap (λ (s : Store). s.seq) f.same));
   counts = record { first = refl; second = refl; declined = refl };
 }
 
 -- A change call failed before the page was got.
 pub open_failed : (d : Numbers) (sector passed before : ℕ) (bytes : List ℕ) (old new : Store) (first second declined moved : ℕ)
-    → old.seq < 2 ^ 62 → moved < 2 ^ 64 → (OfferCarries d (view_at old first second declined moved) bytes → ⊥) → passed ≤ 1 → before ≤ offer_reads d.geometry (offer_of old.book) → stores.Holds d.geometry old new
+    → old.seq < 2 ^ 62 → moved < 2 ^ 64 → (OfferCarries d (view_at old first second declined moved) bytes → ⊥) → passed ≤ 1 → before ≤ offer_reads d.geometry (offer_of old.book)
+    → stores.Holds d.geometry old new
     → OpenChangeFailed d.geometry d.meaning.decoding passed before old new
     → WriteFault d sector bytes
     (record { numbers = d; view = view_at old first second declined moved; stopped = false })
@@ -83,7 +88,11 @@ open_failed d sector passed before bytes old new first second declined moved fre
     stopped = refl;
   });
   over = λ carries. absurd (cannot carries);
-  erased = record { over = λ carries. absurd (cannot carries); clean = λ _. failed_within (erase_due old.book (next_page old.book)) before (offer_reads d.geometry (offer_of old.book)) old.die new.die few_before f.erased };
+  erased =
+      record {
+        over = λ carries. absurd (cannot carries);
+        clean = λ _. failed_within (erase_due old.book (next_page old.book)) before (offer_reads d.geometry (offer_of old.book)) old.die new.die few_before f.erased;
+      };
   book = record {
     changes = f.changes;
     leads = f.leads d.reuse_max;
@@ -106,7 +115,8 @@ open_failed d sector passed before bytes old new first second declined moved fre
 
 -- A read failed before the page was got: the device goes on.
 pub open_read_failed : (d : Numbers) (sector passed before : ℕ) (bytes : List ℕ) (old new : Store) (book : BookValue) (first second declined moved : ℕ)
-    → old.seq < 2 ^ 62 → moved < 2 ^ 64 → (OfferCarries d (view_at old first second declined moved) bytes → ⊥) → passed ≤ 1 → before ≤ offer_reads d.geometry (offer_of old.book) → stores.Holds d.geometry old new
+    → old.seq < 2 ^ 62 → moved < 2 ^ 64 → (OfferCarries d (view_at old first second declined moved) bytes → ⊥) → passed ≤ 1 → before ≤ offer_reads d.geometry (offer_of old.book)
+    → stores.Holds d.geometry old new
     → OpenReadFailed d.geometry d.meaning.decoding passed before old new → Recycles d.reuse_max new.book book
     → WriteFault d sector bytes
     (record { numbers = d; view = view_at old first second declined moved; stopped = false })
@@ -129,11 +139,17 @@ open_read_failed d sector passed before bytes old new book first second declined
   book = record {
     changes = f.changes ++ (Offers ∷ []);
     leads = leads_append d.reuse_max old.book new.book book f.changes (Offers ∷ []) (f.leads d.reuse_max) (leads_one d.reuse_max new.book book Offers recycles);
-    may = (omega (arith, count_by-append is_pass f.changes (Offers ∷ []), f.passed_so), once_append f.changes (Offers ∷ []) f.once (refl, refl, refl, refl, refl), record { before = f.changes; last = refl; none_before = f.none_offered });
+    may = (
+      omega (arith, count_by-append is_pass f.changes (Offers ∷ []), f.passed_so),
+      once_append f.changes (Offers ∷ []) f.once (refl, refl, refl, refl, refl),
+      record { before = f.changes; last = refl; none_before = f.none_offered },
+    );
     rise = 0;
     rises = sym (sealed_offers old.book f.changes ∙ f.none_sealed);
     tally = omega arith;
-    at_cut = λ power came. absurd (read_failed_no_cut (calls_before old.book (next_page old.book)) (before + collection_reads d.geometry old.die.cells (next_page old.book)) old.die new.die f.failed power came);
+    at_cut =
+        λ power came. absurd (read_failed_no_cut (calls_before old.book (next_page old.book))
+        (before + collection_reads d.geometry old.die.cells (next_page old.book)) old.die new.die f.failed power came);
   };
   seq = moves_seq d old new (view_at old first second declined moved) (view_at (record new { book = book }) first second declined moved) refl refl refl refl holds (omega (arith, f.few));
   counts = record { first = refl; second = refl; declined = refl };

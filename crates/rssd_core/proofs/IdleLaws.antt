@@ -84,7 +84,8 @@ module _ (d : Numbers) (k : ℕ) (old mid : Store) (t : IsTrueStore d.geometry o
   seq_is = run_seq d.geometry d.meaning.decoding k old mid run
 
   -- the sectors that moved
-  moves : (first second declined moved moved' : ℕ) (book : BookValue) → Recycles d.reuse_max mid.book book → IdleMoves d (view_at old first second declined moved) (view_at (with_book mid book) first second declined moved') k
+  moves : (first second declined moved moved' : ℕ) (book : BookValue) → Recycles d.reuse_max mid.book book
+      → IdleMoves d (view_at old first second declined moved) (view_at (with_book mid book) first second declined moved') k
   moves first second declined moved moved' book recycles = elim (run_order d k old mid run t) [
     | inr o ↦ record {
       sectors = o.sectors;
@@ -187,7 +188,8 @@ pub read_holds : (d : Numbers) (n k : ℕ) (old new : Store) (Failed : Store →
 read_holds d n k old new Failed e = holds_trans d.geometry old e.mid new (run_holds d.geometry d.meaning.decoding k old e.mid e.run) e.holds
 
 -- the tables are true after the failed read
-pub read_tables : (d : Numbers) (n k : ℕ) (old new : Store) → IsTrueStore d.geometry old → MovesFailed d.geometry d.meaning.decoding n k old new (λ mid. MoveReadFailed d.geometry mid new) → IsTrueStore d.geometry new
+pub read_tables : (d : Numbers) (n k : ℕ) (old new : Store) → IsTrueStore d.geometry old → MovesFailed d.geometry d.meaning.decoding n k old new (λ mid. MoveReadFailed d.geometry mid new)
+    → IsTrueStore d.geometry new
 read_tables d n k old new t e =
     subst (IsTrueStore d.geometry) (sym e.failed.same)
     (subst (λ (cells : List (List ℕ)). stores.IsTrueStore d.geometry (record e.mid { die = record new.die { cells = cells } })) (sym e.failed.cells.cells)
@@ -211,7 +213,9 @@ idle_read_failed d n k old new book first second declined moved stopped t e recy
         seq = ap (λ (s : Store). s.seq) e.failed.same;
         recycled = recycled;
         victim = e.failed.victim;
-        is_victim = subst (λ (room : ℕ). IsIdleVictim e.mid.book room e.failed.victim) (sym (room_is e.mid.book (run_tables d.geometry d.meaning.decoding k old e.mid e.run t).kept e.failed.room e.failed.is_room)) e.failed.is_victim;
+        is_victim =
+            subst (λ (room : ℕ). IsIdleVictim e.mid.book room e.failed.victim)
+            (sym (room_is e.mid.book (run_tables d.geometry d.meaning.decoding k old e.mid e.run t).kept e.failed.room e.failed.is_room)) e.failed.is_victim;
         failed = e.failed.failed;
         by_then = e.failed.by_then;
       }));
@@ -265,7 +269,9 @@ idle_change_failed d n k old new first second declined moved stopped t e = recor
         seq = ap (λ (s : Store). s.seq) e.failed.same;
         book = ap (λ (s : Store). s.book) e.failed.same;
         victim = e.failed.victim;
-        is_victim = subst (λ (room : ℕ). IsIdleVictim e.mid.book room e.failed.victim) (sym (room_is e.mid.book (run_tables d.geometry d.meaning.decoding k old e.mid e.run t).kept e.failed.room e.failed.is_room)) e.failed.is_victim;
+        is_victim =
+            subst (λ (room : ℕ). IsIdleVictim e.mid.book room e.failed.victim)
+            (sym (room_is e.mid.book (run_tables d.geometry d.meaning.decoding k old e.mid e.run t).kept e.failed.room e.failed.is_room)) e.failed.is_victim;
         first = e.failed.first;
         is_first = e.failed.is_first;
         failed = e.failed.failed;
@@ -295,7 +301,10 @@ idle_change_failed d n k old new first second declined moved stopped t e = recor
     tables = run_tables d.geometry d.meaning.decoding k old e.mid e.run t
 
     one_failed : ChangeFailed 2 (move_reads d.geometry) e.mid.die new.die
-    one_failed = change_failed_within 2 (move_reads d.geometry) (omega arith) (few_reads d.geometry e.mid.die.cells e.failed.victim e.failed.first (room_pages d.geometry e.mid tables e.failed.room e.failed.victim e.failed.is_room e.failed.is_victim) e.failed.is_first) e.failed.failed
+    one_failed =
+        change_failed_within 2 (move_reads d.geometry) (omega arith)
+        (few_reads d.geometry e.mid.die.cells e.failed.victim e.failed.first
+        (room_pages d.geometry e.mid tables e.failed.room e.failed.victim e.failed.is_room e.failed.is_victim) e.failed.is_first) e.failed.failed
 
     failed : ChangeFailed (2 * k + 2) (k * move_reads d.geometry + move_reads d.geometry) old.die new.die
     failed = change_failed_then (2 * k) (k * move_reads d.geometry) 2 (move_reads d.geometry) old.die e.mid.die new.die (calls d k old e.mid t e.run) one_failed

@@ -159,7 +159,8 @@ pub record InOrder (d : Numbers) (k : ℕ) (old new : Store) : Type 0 where
   pub room : fill + k ≤ d.geometry.pages
   pub now : (state_at new.book block ≡ Active (fill + k)) ⊎ NoneActive new.book
   pub distinct : (i j : ℕ) → i < j → j < length sectors → slice_index sectors i ≢ slice_index sectors j
-  pub moved : (i : ℕ) → i < length sectors → (header : Header) × (live_record d.geometry new.die.cells (slice_index sectors i) ≡ Some (record { place = first_slot (block * d.geometry.pages + fill + i); header = header }))
+  pub moved : (i : ℕ) → i < length sectors
+      → (header : Header) × (live_record d.geometry new.die.cells (slice_index sectors i) ≡ Some (record { place = first_slot (block * d.geometry.pages + fill + i); header = header }))
   pub others : (sector : ℕ) → (Contains sectors sector → ⊥) → live_record d.geometry new.die.cells sector ≡ live_record d.geometry old.die.cells sector
   pub by_rule : MovesByRule d sectors (moment old) (moment new)
 
@@ -255,9 +256,12 @@ module _ (d : Numbers) (k : ℕ) (old mid new : Store) (t : IsTrueStore d.geomet
   fresh : (i : ℕ) → i < length o.sectors → slice_index o.sectors i ≢ m.first.header.sector
   fresh i within e =
       let there = o.moved i within in
-      let place : m.first ≡ record { place = first_slot (o.block * d.geometry.pages + o.fill + i); header = there.0 } = same_placed (sym m.is_first.live ∙ (ap (live_record d.geometry mid.die.cells) (sym e) ∙ there.1)) in
+      let place : m.first ≡ record { place = first_slot (o.block * d.geometry.pages + o.fill + i); header = there.0 } =
+      same_placed (sym m.is_first.live ∙ (ap (live_record d.geometry mid.die.cells) (sym e) ∙ there.1)) in
       let less : o.fill + i < d.geometry.pages = omega (arith, within, o.count, o.room) in
-      let victim : m.victim ≡ o.block = sym m.is_first.inside ∙ (ap (λ (x : Placed). block_of d.geometry x.place.page) place ∙ (ap (block_of d.geometry) (around o.block d.geometry.pages o.fill i) ∙ block_of_page d.geometry o.block (o.fill + i) less)) in
+      let victim : m.victim ≡ o.block =
+      sym m.is_first.inside ∙ (ap (λ (x : Placed). block_of d.geometry x.place.page) place
+      ∙ (ap (block_of d.geometry) (around o.block d.geometry.pages o.fill i) ∙ block_of_page d.geometry o.block (o.fill + i) less)) in
       false≢true (sym (ap (λ (b : ℕ). is_closed (state_at mid.book b)) (victim ∙ sym same.0) ∙ ap is_closed m.active) ∙ m.is_victim.0.closed)
     where
       same_placed : {x y : Placed} → Some x ≡ Some y → x ≡ y
@@ -291,7 +295,9 @@ module _ (d : Numbers) (k : ℕ) (old mid new : Store) (t : IsTrueStore d.geomet
           let page : m.block * d.geometry.pages + m.fill ≡ o.block * d.geometry.pages + o.fill + i = ap (λ (b : ℕ). b * d.geometry.pages + m.fill) same.0 ∙ next (o.block * d.geometry.pages) i e in
           (own, ap (live_record d.geometry new.die.cells) (at_last i e) ∙ (m.live ∙ ap (λ (p : ℕ). Some (record { place = first_slot p; header = own })) page)))
     ];
-    others = λ s apart. m.others s (λ e. apart (Contains-append_right o.sectors (m.first.header.sector ∷ []) s (only s e))) ∙ o.others s (λ there. apart (Contains-append_left o.sectors (m.first.header.sector ∷ []) s there));
+    others =
+        λ s apart. m.others s (λ e. apart (Contains-append_right o.sectors (m.first.header.sector ∷ []) s (only s e)))
+        ∙ o.others s (λ there. apart (Contains-append_left o.sectors (m.first.header.sector ∷ []) s there));
     by_rule = rule_append d o.sectors m.first.header.sector (moment old) (moment mid) (moment new) o.by_rule (move_by_rule d mid new t m);
   }
     where

@@ -89,7 +89,8 @@ opened_take g d block page old sized t take at = record {
     plus_none : (n : ℕ) → n ≡ n + 0
     plus_none n = omega arith
 
-pub opened_wipe : (g : Geometry) (d : Decoding) (block page : ℕ) (old : Store) (die : DieState) → Erasing g old.die die block → IsErased block old.die die → Passed 1 0 old.die die → IsTrueStore g old → IsWipeBranch old.book block
+pub opened_wipe : (g : Geometry) (d : Decoding) (block page : ℕ) (old : Store) (die : DieState) → Erasing g old.die die block → IsErased block old.die die → Passed 1 0 old.die die
+    → IsTrueStore g old → IsWipeBranch old.book block
     → page ≡ block * old.book.pages → Opened g d page 0 old (record old { die = die; book = with_state old.book block (Active 0) })
 opened_wipe g d block page old die e erased passed t wipe at = record {
   changes = Wipes block ∷ [];
@@ -117,7 +118,8 @@ opened_wipe g d block page old die e erased passed t wipe at = record {
     plus_none n = omega arith
 
 -- the erase of a wipe failed
-pub wipe_failed : (g : Geometry) (d : Decoding) (block : ℕ) (old : Store) (die : DieState) → Erasing g old.die die block → SameCells old.die die ⊎ ErasedInPart block old.die die → ChangeFailed 1 0 old.die die → IsTrueStore g old
+pub wipe_failed : (g : Geometry) (d : Decoding) (block : ℕ) (old : Store) (die : DieState) → Erasing g old.die die block → SameCells old.die die ⊎ ErasedInPart block old.die die
+    → ChangeFailed 1 0 old.die die → IsTrueStore g old
     → IsWipeBranch old.book block → OpenChangeFailed g d 0 0 old (record old { die = die })
 wipe_failed g d block old die e how failed t wipe = record {
   changes = [];
@@ -136,7 +138,8 @@ wipe_failed g d block old die e how failed t wipe = record {
     next = next_is old.book t.kept t.one_spare (Wipe block) wipe
 
 -- an erase of the victim of a wipe
-pub wipe_erases : (g : Geometry) (block : ℕ) (old : Store) (die : DieState) → IsSized g → old.die.shape ≡ shape_of g → Kept old.die die → IsShaped old.die → IsShaped die → OnlyBlock block old.die die → IsTrueStore g old → IsWipeBranch old.book block
+pub wipe_erases : (g : Geometry) (block : ℕ) (old : Store) (die : DieState) → IsSized g → old.die.shape ≡ shape_of g → Kept old.die die → IsShaped old.die → IsShaped die
+    → OnlyBlock block old.die die → IsTrueStore g old → IsWipeBranch old.book block
     → Erasing g old.die die block
 wipe_erases g block old die sized shape kept shaped shaped_new only t wipe =
     let b = wipe_block g old.die.cells old.book old.table old.seq block t wipe in
@@ -147,6 +150,7 @@ pub geometry_same : {shape shape' : Shape} {meaning meaning' : Meaning} {n n' : 
 geometry_same s m l = λ i. geometry_of (s i) (m i) (l i)
 
 -- what is said of a device of the same numbers
-pub over_same : {shape shape' : Shape} {meaning meaning' : Meaning} {n n' : ℕ} (P : Geometry → Meaning → Type 0) → shape' ≡ shape → meaning' ≡ meaning → n' ≡ n → P (geometry_of shape' meaning' n') meaning' → P (geometry_of shape meaning n) meaning
+pub over_same : {shape shape' : Shape} {meaning meaning' : Meaning} {n n' : ℕ} (P : Geometry → Meaning → Type 0) → shape' ≡ shape → meaning' ≡ meaning → n' ≡ n
+    → P (geometry_of shape' meaning' n') meaning' → P (geometry_of shape meaning n) meaning
 over_same {shape} {shape'} {meaning} {meaning'} {n} {n'} P s m l p =
     subst (λ (x : Meaning). P (geometry_of shape x n) x) m (subst (λ (y : Shape). P (geometry_of y meaning' n) meaning') s (subst (λ (z : ℕ). P (geometry_of shape' meaning' z) meaning') l p))

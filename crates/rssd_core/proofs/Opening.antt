@@ -33,7 +33,8 @@ unfolding live_map
 same_map g old new same = λ i. map (λ sector. entry_of (same sector i)) (range_with_len 0 g.sectors)
 
 -- the next seq is still greater than all
-pub next_seq_stays : (g : Geometry) (old new : List (List ℕ)) (seq : ℕ) → ((place : Place) (h : Header) → header_in g new place ≡ Some h → header_in g old place ≡ Some h) → IsNextSeq g old seq → IsNextSeq g new seq
+pub next_seq_stays : (g : Geometry) (old new : List (List ℕ)) (seq : ℕ) → ((place : Place) (h : Header) → header_in g new place ≡ Some h → header_in g old place ≡ Some h) → IsNextSeq g old seq
+    → IsNextSeq g new seq
 next_seq_stays g old new seq back next = elim next [
   | inl greater ↦ inl (λ place h e. greater place h (back place h e))
   | inr last ↦ inr last

@@ -1,5 +1,6 @@
 -- A put over the offered unit: what each of its outcomes leaves.
-use Rattle.std.proofs.Common.{◌≡◌, ◌≢◌, inl, inr, ℕ, zero, suc, ◌+◌, ◌*◌, ◌/◌, ◌^◌, ◌<◌, Bool, true, false, List, drop, take, length, if◌then◌else◌, ◌==◌, Option, Some, refl, sym, ap, ap₂, ◌∙◌, subst, arith}
+use Rattle.std.proofs.Common.{◌≡◌, ◌≢◌, inl, inr, ℕ, zero, suc, ◌+◌, ◌*◌, ◌/◌, ◌^◌, ◌<◌, Bool, true, false, List, drop, take, length, if◌then◌else◌, ◌==◌, Option, Some, refl, sym, ap, ap₂, ◌∙◌}
+use Rattle.std.proofs.Common.{subst, arith}
 use Rattle.std.specs.Prelude.{slice_set}
 use Rattle.std.specs.List.{flat_map, range_with_len}
 use Rattle.std.proofs.lemmas.Bool.{cases_Bool, false≢true, ne_eqb}
@@ -67,9 +68,11 @@ unit_gives g meaning place h before sector old new p gated bytes spans =
     (λ i. meaning.decoding.second_gives before sector (flat_map (λ q. take (sym bytes i) (p.whole gated q i)) (range_with_len place.page (sym spans i)))) ∙ p.content.gives
 
 -- pages above pages make a unit above a unit
-pages_above : (m : ℕ) (new old : ℕ → List ℕ) (a n : ℕ) → ((page : ℕ) → IsAbove (new page) (old page)) → IsAbove (flat_map (λ q. take m (new q)) (range_with_len a n)) (flat_map (λ q. take m (old q)) (range_with_len a n))
+pages_above : (m : ℕ) (new old : ℕ → List ℕ) (a n : ℕ) → ((page : ℕ) → IsAbove (new page) (old page))
+    → IsAbove (flat_map (λ q. take m (new q)) (range_with_len a n)) (flat_map (λ q. take m (old q)) (range_with_len a n))
 pages_above m new old a zero above = above_refl _
-pages_above m new old a (suc n) above = above_append (take m (new a)) (take m (old a)) (flat_map (λ q. take m (new q)) (range_with_len (a + 1) n)) (flat_map (λ q. take m (old q)) (range_with_len (a + 1) n))
+pages_above m new old a (suc n) above =
+    above_append (take m (new a)) (take m (old a)) (flat_map (λ q. take m (new q)) (range_with_len (a + 1) n)) (flat_map (λ q. take m (old q)) (range_with_len (a + 1) n))
     (above_take m (new a) (old a) (above a)) (pages_above m new old (a + 1) n above)
 
 -- the Spare has no live record, and is none of the Recycled blocks
@@ -214,13 +217,15 @@ module _ (meaning : Meaning) (sizes : Sizes) (old : Store) (new : DieState) (uni
 
       pub effect_is : after_record old.book (block_in old.book entry) (former_block old.book old.table sector) ≡ recorded old.book unit.block (former_block old.book old.table sector)
       effect_is = ap (λ (b : ℕ). after_record old.book b (former_block old.book old.table sector)) block_entry
-          ∙ ap (λ (s : State). if is_active s then filled (recorded old.book unit.block (former_block old.book old.table sector)) unit.block else recorded old.book unit.block (former_block old.book old.table sector)) o.offer.1
+          ∙ ap (λ (s : State). if is_active s then filled (recorded old.book unit.block (former_block old.book old.table sector)) unit.block else recorded old.book unit.block
+          (former_block old.book old.table sector)) o.offer.1
 
       pub offer_after : IsOffer (after_record old.book (block_in old.book entry) (former_block old.book old.table sector)) unit
       offer_after = subst (λ (v : BookValue). IsOffer v unit) (sym effect_is) (still_offered g unit h old.die.cells new.cells old.book old.table old.seq writes)
 
       pub put_over_ends : Passed (meaning.span + 1) meaning.span old.die new
-          → PutOver g meaning.decoding unit h bytes old (store new (slice_set old.table sector (Some entry)) (passing (after_record old.book (block_in old.book entry) (former_block old.book old.table sector)) unit) (old.seq + 1))
+          → PutOver g meaning.decoding unit h bytes old
+          (store new (slice_set old.table sector (Some entry)) (passing (after_record old.book (block_in old.book entry) (former_block old.book old.table sector)) unit) (old.seq + 1))
       put_over_ends passed = record {
         live = (wins_from_gate g unit h old.die.cells new.cells puts_over charged).live;
         others = (wins_from_gate g unit h old.die.cells new.cells puts_over charged).others;
@@ -230,9 +235,12 @@ module _ (meaning : Meaning) (sizes : Sizes) (old : Store) (new : DieState) (uni
         gives = unit_gives g meaning (place_in g unit) h before bytes old.die new p' (gate_is charged) bytes_are refl;
         book = ap (λ (v : BookValue). passing v unit) effect_is;
         seq = refl;
-        tables = subst (λ (e : Entry). IsTrue g new.cells (passing (after_record old.book (block_in old.book entry) (former_block old.book old.table sector)) unit) (slice_set old.table sector (Some e)) (old.seq + 1))
+        tables =
+            subst (λ (e : Entry). IsTrue g new.cells (passing (after_record old.book (block_in old.book entry) (former_block old.book old.table sector)) unit) (slice_set old.table sector (Some e))
+            (old.seq + 1))
             (ap (λ (q : ℕ). Held (record { page = q; slot = unit.slot })) (sym o.page_is) ∙ sym is_entry)
-            (subst (λ (v : BookValue). IsTrue g new.cells (passing v unit) (slice_set old.table sector (Some (Held (record { page = unit_page g unit.block unit.number; slot = unit.slot })))) (old.seq + 1)) (sym effect_is)
+            (subst (λ (v : BookValue). IsTrue g new.cells (passing v unit) (slice_set old.table sector (Some (Held (record { page = unit_page g unit.block unit.number; slot = unit.slot }))))
+            (old.seq + 1)) (sym effect_is)
             (second_true g unit h old.die.cells new.cells old.book old.table old.seq writes));
         erases = p.erases;
         calls = passed;
@@ -240,7 +248,8 @@ module _ (meaning : Meaning) (sizes : Sizes) (old : Store) (new : DieState) (uni
 
 -- ---- declined, and a failed read
 
-pub over_declined : (meaning : Meaning) (sizes : Sizes) (old : Store) (new : DieState) (unit : ReuseUnit) (page sector : ℕ) (bytes : List ℕ) → IsOver meaning sizes old new unit page sector → SameCells old.die new
+pub over_declined : (meaning : Meaning) (sizes : Sizes) (old : Store) (new : DieState) (unit : ReuseUnit) (page sector : ℕ) (bytes : List ℕ) → IsOver meaning sizes old new unit page sector
+    → SameCells old.die new
     → NoneCarries meaning (flat_map (λ q. take old.die.shape.main_bytes (page_of old.die q)) (range_with_len page meaning.span)) bytes → Passed 0 meaning.span old.die new
     → OverDeclined (geometry_of old.die.shape meaning (length old.table)) meaning.decoding unit bytes old (store new old.table (passing old.book unit) old.seq)
 over_declined meaning sizes old new unit page sector bytes o same none passed = record {

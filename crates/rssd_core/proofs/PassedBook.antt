@@ -51,7 +51,8 @@ module _ (v : BookValue) (unit : ReuseUnit) (offer : IsOffer v unit) where
   from_clean_same (Some block) = refl
   from_clean_same None =
       ap (λ (o : Option ℕ). from_victim (passing v unit) o (first_block is_spare (passing v unit))) victim_same
-      ∙ (ap (from_victim (passing v unit) (victim_of v)) (first_same is_spare v unit.block (passed v unit) (passed_not_spare v unit ∙ sym (ap is_spare offer.1))) ∙ from_same (victim_of v) (first_block is_spare v))
+      ∙ (ap (from_victim (passing v unit) (victim_of v)) (first_same is_spare v unit.block (passed v unit) (passed_not_spare v unit ∙ sym (ap is_spare offer.1)))
+      ∙ from_same (victim_of v) (first_block is_spare v))
     where
       from_same : (victim spare : Option ℕ) → from_victim (passing v unit) victim spare ≡ from_victim v victim spare
       from_same None spare = refl
@@ -63,12 +64,14 @@ module _ (v : BookValue) (unit : ReuseUnit) (offer : IsOffer v unit) where
   other_state test b apart is = state_there v unit.block b (passed v unit) (λ same. false≢true (sym (ap test (ap (state_at v) same ∙ offer.1) ∙ apart) ∙ first_passes test v b is))
 
   from_active_same : (o : Option ℕ) → first_block is_active v ≡ o → from_active (passing v unit) o ≡ from_active v o
-  from_active_same None is = ap (from_clean (passing v unit)) (first_same is_clean v unit.block (passed v unit) (passed_not_clean v unit ∙ sym (ap is_clean offer.1))) ∙ from_clean_same (first_block is_clean v)
+  from_active_same None is =
+      ap (from_clean (passing v unit)) (first_same is_clean v unit.block (passed v unit) (passed_not_clean v unit ∙ sym (ap is_clean offer.1))) ∙ from_clean_same (first_block is_clean v)
   from_active_same (Some block) is = ap (λ (s : State). Page (block * v.pages + fill_of s)) (other_state is_active block refl is)
 
   pub next_same : next_page (passing v unit) ≡ next_page v
   unfolding next_page
-  next_same = ap (from_active (passing v unit)) (first_same is_active v unit.block (passed v unit) (passed_not_active v unit ∙ sym (ap is_active offer.1))) ∙ from_active_same (first_block is_active v) refl
+  next_same =
+      ap (from_active (passing v unit)) (first_same is_active v unit.block (passed v unit) (passed_not_active v unit ∙ sym (ap is_active offer.1))) ∙ from_active_same (first_block is_active v) refl
 
   -- a collection goes to the Spare
   spare_of_victim : (o p : Option ℕ) (victim spare : ℕ) → from_victim v o p ≡ Collect victim spare → p ≡ Some spare

@@ -29,7 +29,8 @@ use Rattle.rssd_core.proofs.SecondWrite.{PutsOver, over_gate, none_committed, ma
 -- ---- the state after a pass
 
 -- a number at the last unit, and one before
-pub passed_cases : (v : BookValue) (unit : ReuseUnit) (P : State → Type 0) → P Reused → (unit.slot + 1 ≢ v.generations → P (Used unit.slot)) → (unit.number + 1 ≢ v.units → P (Recycled unit.slot (unit.number + 1))) → P (passed v unit)
+pub passed_cases : (v : BookValue) (unit : ReuseUnit) (P : State → Type 0) → P Reused → (unit.slot + 1 ≢ v.generations → P (Used unit.slot))
+    → (unit.number + 1 ≢ v.units → P (Recycled unit.slot (unit.number + 1))) → P (passed v unit)
 passed_cases v unit P reused used recycled = elim (cases_eq (unit.number + 1) v.units) [
   | inr more ↦ subst (λ (t : Bool). P (if t then (if unit.slot + 1 == v.generations then Reused else Used unit.slot) else Recycled unit.slot (unit.number + 1))) (sym (ne_eqb _ _ more)) (recycled more)
   | inl last ↦ subst (λ (t : Bool). P (if t then (if unit.slot + 1 == v.generations then Reused else Used unit.slot) else Recycled unit.slot (unit.number + 1))) (sym (eq-eqb _ _ last))
@@ -57,7 +58,8 @@ offered_state g cells book table seq unit true_tables offer =
 
 -- ---- a pass alone
 
-alone_state : (g : Geometry) (cells : List (List ℕ)) (unit : ReuseUnit) (v : BookValue) → IsTrueRecycled g cells unit.block unit.slot unit.number → v.units ≡ units g → v.generations ≡ g.generations → IsTrueState g cells unit.block (passed v unit)
+alone_state : (g : Geometry) (cells : List (List ℕ)) (unit : ReuseUnit) (v : BookValue) → IsTrueRecycled g cells unit.block unit.slot unit.number → v.units ≡ units g → v.generations ≡ g.generations
+    → IsTrueState g cells unit.block (passed v unit)
 alone_state g cells unit v offered whole slots = passed_cases v unit (IsTrueState g cells unit.block) tt
     (λ below. record { may_rise = omega (arith, slots, offered.high, below); above = offered.above })
     (λ next. record {
@@ -81,7 +83,8 @@ pass_true g cells book table seq unit true_tables offer =
       one_spare = spare_stays book unit.block (passed book unit) offer.0 (ap is_spare offer.1) (passed_not_spare book unit) true_tables.one_spare;
       states = λ c inside. elim (cases_eq c unit.block) [
         | inl here ↦ subst (λ (d : ℕ). IsTrueState g cells d (state_at (with_state book unit.block (passed book unit)) d)) (sym here)
-            (subst (IsTrueState g cells unit.block) (sym (state_here book unit.block (passed book unit) offer.0)) (alone_state g cells unit book offered.1 true_tables.sizes.units true_tables.sizes.generations))
+            (subst (IsTrueState g cells unit.block) (sym (state_here book unit.block (passed book unit) offer.0))
+            (alone_state g cells unit book offered.1 true_tables.sizes.units true_tables.sizes.generations))
         | inr there ↦ subst (IsTrueState g cells c) (sym (state_there book unit.block c (passed book unit) there)) (true_tables.states c inside)
       ];
       kept = valid_state book unit.block (passed book unit) true_tables.kept offer.0 range (λ active. absurd (false≢true (sym (passed_not_active book unit) ∙ active)));
@@ -111,7 +114,8 @@ former_drops g cells book table seq sector sized true_tables within =
     subst (MayDrop book) (sym (former_known g cells book table seq sector true_tables within)) (may_drop g cells book table seq sector sized true_tables (live_record g cells sector) refl)
 
 -- the unit's block has room for one live record more
-pub over_room : (g : Geometry) (unit : ReuseUnit) (h : Header) (old new : List (List ℕ)) (book : BookValue) (table : List (Option Entry)) (seq : ℕ) → PutsOver g unit h old new → IsTrue g old book table seq
+pub over_room : (g : Geometry) (unit : ReuseUnit) (h : Header) (old new : List (List ℕ)) (book : BookValue) (table : List (Option Entry)) (seq : ℕ) → PutsOver g unit h old new
+    → IsTrue g old book table seq
     → live_at book unit.block < book.generations * book.pages
 over_room g unit h old new book table seq put true_tables =
     let few : live_count g old unit.block < g.generations * g.pages =
@@ -190,7 +194,8 @@ module _ (g : Geometry) (unit : ReuseUnit) (h : Header) (old new : List (List �
   state_after : (c : ℕ) → c < g.blocks → IsTrueState g new c (state_at (with_state after unit.block (passed after unit)) c)
   state_after c inside = elim (cases_eq c unit.block) [
     | inl here ↦ subst (λ (d : ℕ). IsTrueState g new d (state_at (with_state after unit.block (passed after unit)) d)) (sym here)
-        (subst (IsTrueState g new unit.block) (sym (state_here after unit.block (passed after unit) within_after)) (passed_state g unit h old new w.put w.gated after sizes_after.units sizes_after.generations))
+        (subst (IsTrueState g new unit.block) (sym (state_here after unit.block (passed after unit) within_after))
+        (passed_state g unit h old new w.put w.gated after sizes_after.units sizes_after.generations))
     | inr there ↦ subst (IsTrueState g new c) (sym (state_there after unit.block c (passed after unit) there ∙ state_same c))
         (state_stays g old new c (state_at book c) w.put.sized (other_stays g unit h old new w.put w.gated c there) (w.tables.states c inside))
   ]
@@ -199,7 +204,9 @@ module _ (g : Geometry) (unit : ReuseUnit) (h : Header) (old new : List (List �
   pub second_true : IsTrue g new (with_state after unit.block (passed after unit)) (slice_set table h.sector (entry_of (Some (record { place = place_in g unit; header = h })))) (seq + 1)
   second_true = record {
     live_counts = counts_after;
-    entries = ap (λ (t : List (Option Entry)). slice_set t h.sector (entry_of (Some (record { place = place_in g unit; header = h })))) w.tables.entries ∙ map_moves g old new (place_in g unit) h w.put.sector wins;
+    entries =
+        ap (λ (t : List (Option Entry)). slice_set t h.sector (entry_of (Some (record { place = place_in g unit; header = h })))) w.tables.entries
+        ∙ map_moves g old new (place_in g unit) h w.put.sector wins;
     one_spare = spare_stays after unit.block (passed after unit) within_after (ap is_spare still_offered.1) (passed_not_spare after unit) one_spare_after;
     states = state_after;
     kept = valid_state after unit.block (passed after unit) valid_after within_after in_range_after (λ active. absurd (false≢true (sym (passed_not_active after unit) ∙ active)));

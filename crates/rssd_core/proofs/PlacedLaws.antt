@@ -34,7 +34,11 @@ pub record FewCounts (first second declined moved : ℕ) : Type 0 where
 abbrev pub Writes : Numbers → ℕ → List ℕ → Placed → Store → Store → BookValue → ℕ → ℕ → ℕ → ℕ → ℕ → Type 0
 Writes d sector bytes placed old new book first second declined moved moved' = Wrote d sector bytes placed
     (record { numbers = d; view = view_at old first second declined moved; stopped = false })
-    (record { numbers = d; view = view_at (record new { book = book }) (count_sum first (firsts placed)) (count_sum second (seconds placed)) (count_sum declined (declines placed)) moved'; stopped = false })
+    (record {
+      numbers = d;
+      view = view_at (record new { book = book }) (count_sum first (firsts placed)) (count_sum second (seconds placed)) (count_sum declined (declines placed)) moved';
+      stopped = false;
+    })
 
 abbrev pub Faults : Numbers → ℕ → List ℕ → Store → Store → BookValue → Bool → ℕ → ℕ → ℕ → ℕ → ℕ → Type 0
 Faults d sector bytes old new book stopped first second declined moved moved' = WriteFault d sector bytes
@@ -50,10 +54,12 @@ module _ (d : Numbers) (sector : ℕ) (bytes : List ℕ) (old new : Store) (firs
     first_written : NotOffered d.geometry d.meaning.decoding sector bytes (Ok tt) old new moved moved' → Writes d sector bytes First old new book first second declined moved moved'
     first_written p = subst (λ (m : ℕ). Writes d sector bytes First old new book first second declined moved m) (sym p.ends.tally)
         (subst (λ (s : ℕ). Wrote d sector bytes First (record { numbers = d; view = view_at old first second declined moved; stopped = false })
-        (record { numbers = d; view = view_at (record new { book = book }) (count_sum first 1) s (count_sum declined 0) (count_sum moved p.ends.rise); stopped = false })) (sym (none_first second few.few_second))
+        (record { numbers = d; view = view_at (record new { book = book }) (count_sum first 1) s (count_sum declined 0) (count_sum moved p.ends.rise); stopped = false }))
+        (sym (none_first second few.few_second))
         (subst (λ (c : ℕ). Wrote d sector bytes First (record { numbers = d; view = view_at old first second declined moved; stopped = false })
         (record { numbers = d; view = view_at (record new { book = book }) (count_sum first 1) second c (count_sum moved p.ends.rise); stopped = false })) (sym (none_first declined few.few_declined))
-        (wrote_first d sector p.ends.page p.ends.rise bytes old p.ends.mid new book first second declined moved fresh few.few_second few.few_declined (no_offer_is old.book p.none) holds p.ends.opened p.ends.put recycles)))
+        (wrote_first d sector p.ends.page p.ends.rise bytes old p.ends.mid new book first second declined moved fresh few.few_second few.few_declined
+        (no_offer_is old.book p.none) holds p.ends.opened p.ends.put recycles)))
 
     second_written : Carried d.geometry d.meaning.decoding sector bytes old new moved moved' → Writes d sector bytes Second old new book first second declined moved moved'
     second_written p = subst (λ (m : ℕ). Writes d sector bytes Second old new book first second declined moved m) (sym p.tally)
@@ -66,7 +72,8 @@ module _ (d : Numbers) (sector : ℕ) (bytes : List ℕ) (old new : Store) (firs
     declined_written : Turned d.geometry d.meaning.decoding sector bytes (Ok tt) old new moved moved' → Writes d sector bytes Declined old new book first second declined moved moved'
     declined_written p = subst (λ (m : ℕ). Writes d sector bytes Declined old new book first second declined moved m) (sym p.ends.tally)
         (subst (λ (f : ℕ). Wrote d sector bytes Declined (record { numbers = d; view = view_at old first second declined moved; stopped = false })
-        (record { numbers = d; view = view_at (record new { book = book }) f (count_sum second 0) (count_sum declined 1) (count_sum moved p.ends.rise); stopped = false })) (sym (none_first first few.few_first))
+        (record { numbers = d; view = view_at (record new { book = book }) f (count_sum second 0) (count_sum declined 1) (count_sum moved p.ends.rise); stopped = false }))
+        (sym (none_first first few.few_first))
         (subst (λ (s : ℕ). Wrote d sector bytes Declined (record { numbers = d; view = view_at old first second declined moved; stopped = false })
         (record { numbers = d; view = view_at (record new { book = book }) first s (count_sum declined 1) (count_sum moved p.ends.rise); stopped = false })) (sym (none_first second few.few_second))
         (wrote_declined d sector p.ends.page p.ends.rise bytes old p.ends.mid new book first second declined moved fresh few.few_first few.few_second
@@ -74,7 +81,8 @@ module _ (d : Numbers) (sector : ℕ) (bytes : List ℕ) (old new : Store) (firs
         (declined_opened d p.unit bytes old p.start p.offer p.declined p.ends.page p.ends.rise p.ends.mid p.ends.opened) p.ends.put recycles)))
 
     -- however it was placed
-    pub written : (placed : Placed) → PlaceEnds d.geometry d.meaning.decoding sector bytes (Ok placed) old new moved moved' → Writes d sector bytes placed old new book first second declined moved moved'
+    pub written : (placed : Placed) → PlaceEnds d.geometry d.meaning.decoding sector bytes (Ok placed) old new moved moved'
+        → Writes d sector bytes placed old new book first second declined moved moved'
     written First p = first_written p
     written Second p = second_written p
     written Declined p = declined_written p
@@ -82,9 +90,11 @@ module _ (d : Numbers) (sector : ℕ) (bytes : List ℕ) (old new : Store) (firs
     -- a read failed
     pub unread : PlaceEnds d.geometry d.meaning.decoding sector bytes (Err (faults.Read)) old new moved moved' → Faults d sector bytes old new book false first second declined moved moved'
     unread (inl p) = subst (λ (m : ℕ). Faults d sector bytes old new book false first second declined moved m) (sym p.ends.1)
-        (open_read_failed d sector 0 0 bytes old new book first second declined moved fresh few.few_moved (λ carries. none-some carries.0 (sym (no_offer_is old.book p.none) ∙ carries.1)) (omega arith) (omega arith) holds p.ends.0 recycles)
+        (open_read_failed d sector 0 0 bytes old new book first second declined moved fresh few.few_moved (λ carries. none-some carries.0 (sym (no_offer_is old.book p.none) ∙ carries.1))
+        (omega arith) (omega arith) holds p.ends.0 recycles)
     unread (inr (inl p)) = subst (λ (m : ℕ). Faults d sector bytes old new book false first second declined moved m) (sym p.ends.1)
-        (open_read_failed d sector 1 d.geometry.span bytes old new book first second declined moved fresh few.few_moved (declines_not d p.unit bytes old p.start first second declined moved p.offer p.declined) (omega arith)
+        (open_read_failed d sector 1 d.geometry.span bytes old new book first second declined moved fresh few.few_moved
+        (declines_not d p.unit bytes old p.start first second declined moved p.offer p.declined) (omega arith)
         (offer_reads_are d p.unit old p.offer) holds (declined_read_failed d p.unit bytes old p.start p.offer p.declined new p.ends.0) recycles)
     unread (inr (inr p)) = subst (λ (m : ℕ). Faults d sector bytes old new book false first second declined moved m) (sym p.tally)
         (over_read_failed d sector p.unit bytes old new book first second declined moved fresh few.few_moved p.offer holds p.put recycles)
@@ -93,16 +103,20 @@ module _ (d : Numbers) (sector : ℕ) (bytes : List ℕ) (old new : Store) (firs
   pub unchanged : PlaceEnds d.geometry d.meaning.decoding sector bytes (Err (faults.Change)) old new moved moved' → Faults d sector bytes old new new.book true first second declined moved moved'
   unchanged (inl p) = elim p.ends [
     | inl failed ↦ subst (λ (m : ℕ). Faults d sector bytes old new new.book true first second declined moved m) (sym failed.1)
-        (open_failed d sector 0 0 bytes old new first second declined moved fresh few.few_moved (λ carries. none-some carries.0 (sym (no_offer_is old.book p.none) ∙ carries.1)) (omega arith) (omega arith) holds failed.0)
+        (open_failed d sector 0 0 bytes old new first second declined moved fresh few.few_moved (λ carries. none-some carries.0 (sym (no_offer_is old.book p.none) ∙ carries.1)) (omega arith)
+        (omega arith) holds failed.0)
     | inr failed ↦ subst (λ (m : ℕ). Faults d sector bytes old new new.book true first second declined moved m) (sym failed.tally)
-        (put_failed d sector failed.page failed.rise 1 0 0 bytes old failed.mid new first second declined moved fresh (λ carries. none-some carries.0 (sym (no_offer_is old.book p.none) ∙ carries.1)) (omega arith) (omega arith) holds failed.opened failed.put)
+        (put_failed d sector failed.page failed.rise 1 0 0 bytes old failed.mid new first second declined moved fresh
+        (λ carries. none-some carries.0 (sym (no_offer_is old.book p.none) ∙ carries.1)) (omega arith) (omega arith) holds failed.opened failed.put)
   ]
   unchanged (inr (inl p)) = elim p.ends [
     | inl failed ↦ subst (λ (m : ℕ). Faults d sector bytes old new new.book true first second declined moved m) (sym failed.1)
-        (open_failed d sector 1 d.geometry.span bytes old new first second declined moved fresh few.few_moved (declines_not d p.unit bytes old p.start first second declined moved p.offer p.declined) (omega arith)
+        (open_failed d sector 1 d.geometry.span bytes old new first second declined moved fresh few.few_moved
+        (declines_not d p.unit bytes old p.start first second declined moved p.offer p.declined) (omega arith)
         (offer_reads_are d p.unit old p.offer) holds (declined_change_failed d p.unit bytes old p.start p.offer p.declined new failed.0))
     | inr failed ↦ subst (λ (m : ℕ). Faults d sector bytes old new new.book true first second declined moved m) (sym failed.tally)
-        (put_failed d sector failed.page failed.rise 1 1 d.geometry.span bytes old failed.mid new first second declined moved fresh (declines_not d p.unit bytes old p.start first second declined moved p.offer p.declined) (omega arith)
+        (put_failed d sector failed.page failed.rise 1 1 d.geometry.span bytes old failed.mid new first second declined moved fresh
+        (declines_not d p.unit bytes old p.start first second declined moved p.offer p.declined) (omega arith)
         (offer_reads_are d p.unit old p.offer) holds (declined_opened d p.unit bytes old p.start p.offer p.declined failed.page failed.rise failed.mid failed.opened) failed.put)
   ]
   unchanged (inr (inr p)) = subst (λ (m : ℕ). Faults d sector bytes old new new.book true first second declined moved m) (sym p.tally)
@@ -110,12 +124,14 @@ module _ (d : Numbers) (sector : ℕ) (bytes : List ℕ) (old new : Store) (firs
 
 -- ---- from the calls that were made
 
-pub over_faults : (g : Geometry) (d : Decoding) (sector : ℕ) (bytes : List ℕ) (unit : ReuseUnit) (fault : PutFault) (old new : Store) (moved : ℕ) → IsOffer old.book unit → OverEnds g d unit (header_at sector old.seq) bytes (Err fault) old new
+pub over_faults : (g : Geometry) (d : Decoding) (sector : ℕ) (bytes : List ℕ) (unit : ReuseUnit) (fault : PutFault) (old new : Store) (moved : ℕ) → IsOffer old.book unit
+    → OverEnds g d unit (header_at sector old.seq) bytes (Err fault) old new
     → PlaceEnds g d sector bytes (Err fault) old new moved moved
 over_faults g d sector bytes unit (faults.Read) old new moved offer ends = inr (inr (record { unit = unit; offer = offer; put = ends; tally = refl }))
 over_faults g d sector bytes unit (faults.Change) old new moved offer ends = inr (inr (record { unit = unit; offer = offer; put = ends; tally = refl }))
 
-pub turned_faults : (g : Geometry) (d : Decoding) (sector : ℕ) (bytes : List ℕ) (unit : ReuseUnit) (fault : PutFault) (old start new : Store) (moved moved' : ℕ) → IsOffer old.book unit → OverDeclined g d unit bytes old start
+pub turned_faults : (g : Geometry) (d : Decoding) (sector : ℕ) (bytes : List ℕ) (unit : ReuseUnit) (fault : PutFault) (old start new : Store) (moved moved' : ℕ) → IsOffer old.book unit
+    → OverDeclined g d unit bytes old start
     → CleanEnds g d sector bytes (Err fault) start new moved moved' → PlaceEnds g d sector bytes (Err fault) old new moved moved'
 turned_faults g d sector bytes unit (faults.Read) old start new moved moved' offer declined ends = inr (inl (record { unit = unit; offer = offer; start = start; declined = declined; ends = ends }))
 turned_faults g d sector bytes unit (faults.Change) old start new moved moved' offer declined ends = inr (inl (record { unit = unit; offer = offer; start = start; declined = declined; ends = ends }))

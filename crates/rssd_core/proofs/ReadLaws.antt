@@ -27,7 +27,8 @@ use Rattle.rssd_core.specs.EntryRow.{entry_row, entry_reads, HasPages}
 use Rattle.rssd_core.proofs.RecordLaws.{entry_is, block_below}
 use Rattle.rssd_core.proofs.Wiping.{read_in_block, page_below}
 
-row_is : (die : DieState) (meaning : Meaning) (sectors : ℕ) (o : Option records.Placed) → entry_row meaning die (entry_of o) ≡ said_by (geometry_of die.shape meaning sectors) meaning.decoding die.cells o
+row_is : (die : DieState) (meaning : Meaning) (sectors : ℕ) (o : Option records.Placed)
+    → entry_row meaning die (entry_of o) ≡ said_by (geometry_of die.shape meaning sectors) meaning.decoding die.cells o
 row_is die meaning sectors None = refl
 row_is die meaning sectors (Some placed) = at (says_zeros placed.header) refl
   where
@@ -58,9 +59,11 @@ module _ (die : DieState) (meaning : Meaning) (table : List (Option Entry)) (boo
   pub entry_row_is : entry_row meaning die (entry_at table sector) ≡ slice_index_or (stored (geometry_of die.shape meaning (length table)) meaning.decoding die.cells) sector []
   entry_row_is =
       ap (entry_row meaning die) entry_live
-      ∙ (row_is die meaning (length table) (live_record (geometry_of die.shape meaning (length table)) die.cells sector) ∙ sym (row_of (geometry_of die.shape meaning (length table)) meaning.decoding die.cells sector within))
+      ∙ (row_is die meaning (length table) (live_record (geometry_of die.shape meaning (length table)) die.cells sector)
+      ∙ sym (row_of (geometry_of die.shape meaning (length table)) meaning.decoding die.cells sector within))
 
-  pub entry_reads_are : entry_reads meaning (entry_at table sector) ≡ get_reads (geometry_of die.shape meaning (length table)) (live_record (geometry_of die.shape meaning (length table)) die.cells sector)
+  pub entry_reads_are : entry_reads meaning (entry_at table sector)
+      ≡ get_reads (geometry_of die.shape meaning (length table)) (live_record (geometry_of die.shape meaning (length table)) die.cells sector)
   entry_reads_are = ap (entry_reads meaning) entry_live ∙ reads_are die.shape meaning (length table) (live_record (geometry_of die.shape meaning (length table)) die.cells sector)
 
   -- the last page that a held record is read from stands in its block
@@ -68,12 +71,17 @@ module _ (die : DieState) (meaning : Meaning) (table : List (Option Entry)) (boo
   pages_in None e = tt
   pages_in (Some placed) e = at (says_zeros placed.header) refl
     where
-      last : (n : ℕ) → 0 < n → ((i : ℕ) → i < n → block_of (geometry_of die.shape meaning (length table)) (placed.place.page + i) ≡ block_of (geometry_of die.shape meaning (length table)) placed.place.page)
+      last : (n : ℕ) → 0 < n → ((i : ℕ) → i < n
+          → block_of (geometry_of die.shape meaning (length table)) (placed.place.page + i) ≡ block_of (geometry_of die.shape meaning (length table)) placed.place.page)
           → placed.place.page + n ≤ page_count die.shape
       last n some inside =
           let here = room.live_within (geometry_of die.shape meaning (length table)) die.cells sector placed (omega (arith, sized.two_slots)) e in
           let block = block_below (geometry_of die.shape meaning (length table)) placed.place.page sized.pages here.0 in
-          omega (arith, page_below (geometry_of die.shape meaning (length table)) (block_of (geometry_of die.shape meaning (length table)) placed.place.page) (placed.place.page + (n - 1)) sized.pages block (inside (n - 1) (omega arith)))
+          omega (
+            arith,
+            page_below (geometry_of die.shape meaning (length table)) (block_of (geometry_of die.shape meaning (length table)) placed.place.page)
+                (placed.place.page + (n - 1)) sized.pages block (inside (n - 1) (omega arith)),
+          )
 
       some_reads : (t : Bool) → 0 < (if t then 1 else meaning.span)
       some_reads true = omega arith

@@ -1,5 +1,6 @@
 -- What a record that became live does to the live counts, the map and the sectors.
-use Rattle.std.proofs.Common.{◌≡◌, inl, inr, ℕ, ◌+◌, ◌*◌, ◌/◌, ◌<◌, Bool, true, false, cond, List, map, if◌then◌else◌, Option, Some, None, refl, sym, ap, ◌∙◌, subst, arith, get_or-set_same, get_or-set_other, length-set}
+use Rattle.std.proofs.Common.{◌≡◌, inl, inr, ℕ, ◌+◌, ◌*◌, ◌/◌, ◌<◌, Bool, true, false, cond, List, map, if◌then◌else◌, Option, Some, None, refl, sym, ap, ◌∙◌, subst, arith, get_or-set_same}
+use Rattle.std.proofs.Common.{get_or-set_other, length-set}
 use Rattle.std.specs.Prelude.{slice_set, slice_index_or}
 use Rattle.std.specs.List.{range_with_len}
 use Rattle.std.proofs.lemmas.Bool.{cases_eq}
@@ -36,7 +37,8 @@ pub former_is : (g : Geometry) (book : BookValue) (o : Option Placed) → book.p
 former_is g book None e = refl
 former_is g book (Some placed) e = at (says_zeros placed.header)
   where
-    at : (t : Bool) → former_in book (if t then Some (Zeros (record { page = placed.place.page; slot = placed.place.slot })) else Some (Held (record { page = placed.place.page; slot = placed.place.slot }))) ≡ Some (block_of g placed.place.page)
+    at : (t : Bool) → former_in book (if t then Some (Zeros (record { page = placed.place.page; slot = placed.place.slot })) else Some
+        (Held (record { page = placed.place.page; slot = placed.place.slot }))) ≡ Some (block_of g placed.place.page)
     at true = ap (λ (n : ℕ). Some (placed.place.page / n)) e
     at false = ap (λ (n : ℕ). Some (placed.place.page / n)) e
 
@@ -63,10 +65,12 @@ pub map_moves : (g : Geometry) (old new : List (List ℕ)) (place : Place) (h : 
     → slice_set (live_map g old) h.sector (entry_of (Some (record { place = place; header = h }))) ≡ live_map g new
 unfolding live_map
 map_moves g old new place h within wins =
-    fill_by_all (λ s. entry_of (live_record g new s)) (slice_set (map (λ s. entry_of (live_record g old s)) (range_with_len 0 g.sectors)) h.sector (entry_of (Some (record { place = place; header = h })))) g.sectors None
+    fill_by_all (λ s. entry_of (live_record g new s))
+    (slice_set (map (λ s. entry_of (live_record g old s)) (range_with_len 0 g.sectors)) h.sector (entry_of (Some (record { place = place; header = h })))) g.sectors None
     (length-set _ h.sector _ ∙ length-map-range_with_len (λ s. entry_of (live_record g old s)) 0 g.sectors)
     (λ k below. elim (cases_eq k h.sector) [
-      | inl here ↦ ap (λ (j : ℕ). entry_at (slice_set (map (λ s. entry_of (live_record g old s)) (range_with_len 0 g.sectors)) h.sector (entry_of (Some (record { place = place; header = h })))) j) here
+      | inl here ↦ ap (λ (j : ℕ). entry_at (slice_set (map (λ s. entry_of (live_record g old s)) (range_with_len 0 g.sectors)) h.sector
+          (entry_of (Some (record { place = place; header = h })))) j) here
           ∙ (get_or-set_same _ h.sector _ None (subst (λ (n : ℕ). h.sector < n) (sym (length-map-range_with_len (λ s. entry_of (live_record g old s)) 0 g.sectors)) within)
           ∙ sym (ap entry_of (ap (live_record g new) here ∙ wins.live)))
       | inr there ↦ get_or-set_other _ h.sector k _ None there

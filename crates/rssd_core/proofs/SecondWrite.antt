@@ -1,5 +1,6 @@
 -- A put over an offered unit: where it was carried, the tables are true after the record effect and the pass.
-use Rattle.std.proofs.Common.{◌≡◌, ◌≢◌, ◌⊎◌, inl, inr, ℕ, ◌+◌, ◌-◌, ◌*◌, ◌/◌, ◌%◌, ◌<◌, ◌≤◌, Bool, true, false, List, drop, length, if◌then◌else◌, ◌||◌, ◌==◌, Some, None, refl, sym, ap, ◌∙◌, subst, arith}
+use Rattle.std.proofs.Common.{◌≡◌, ◌≢◌, ◌⊎◌, inl, inr, ℕ, ◌+◌, ◌-◌, ◌*◌, ◌/◌, ◌%◌, ◌<◌, ◌≤◌, Bool, true, false, List, drop, length, if◌then◌else◌, ◌||◌, ◌==◌, Some, None, refl, sym, ap, ◌∙◌}
+use Rattle.std.proofs.Common.{subst, arith}
 use Rattle.std.specs.Prelude.{slice_set}
 use Rattle.std.proofs.lemmas.Bool.{cases_eq, cases_lt, eq-eqb, ne_eqb, lt-ltb, and_from}
 use Rattle.std.proofs.lemmas.Option.{same_Some}
@@ -161,7 +162,8 @@ module _ (g : Geometry) (unit : ReuseUnit) (h : Header) (old new : List (List �
   stores_from_gate d charged = put_stores g d (place_in g unit) h old new p.put holds_record p.single gate_before charged newest none_reads
 
   -- the row of the record's sector is set, and the others stay
-  pub rows_from_gate : (d : Decoding) (bytes : List ℕ) → over_gate g unit new ≡ true → said_by g d new (Some (record { place = place_in g unit; header = h })) ≡ bytes → stored g d new ≡ slice_set (stored g d old) h.sector bytes
+  pub rows_from_gate : (d : Decoding) (bytes : List ℕ) → over_gate g unit new ≡ true → said_by g d new (Some (record { place = place_in g unit; header = h })) ≡ bytes
+      → stored g d new ≡ slice_set (stored g d old) h.sector bytes
   rows_from_gate d bytes charged says = rows_move g d old new (place_in g unit) h bytes p.sector (stores_from_gate d charged) says
 
   -- ---- the block after the pass
@@ -203,9 +205,11 @@ module _ (g : Geometry) (unit : ReuseUnit) (h : Header) (old new : List (List �
 
   pub passed_state : over_gate g unit new ≡ true → (v : BookValue) → v.units ≡ units g → v.generations ≡ g.generations → IsTrueState g new unit.block (passed v unit)
   passed_state charged v whole slots = elim (cases_eq (unit.number + 1) v.units) [
-    | inl last ↦ subst (λ (t : Bool). IsTrueState g new unit.block (if t then (if unit.slot + 1 == v.generations then Reused else Used unit.slot) else Recycled unit.slot (unit.number + 1))) (sym (eq-eqb _ _ last))
+    | inl last ↦ subst (λ (t : Bool). IsTrueState g new unit.block (if t then (if unit.slot + 1 == v.generations then Reused else Used unit.slot) else Recycled unit.slot (unit.number + 1)))
+        (sym (eq-eqb _ _ last))
         (passed_last charged v slots)
-    | inr more ↦ subst (λ (t : Bool). IsTrueState g new unit.block (if t then (if unit.slot + 1 == v.generations then Reused else Used unit.slot) else Recycled unit.slot (unit.number + 1))) (sym (ne_eqb _ _ more))
+    | inr more ↦ subst (λ (t : Bool). IsTrueState g new unit.block (if t then (if unit.slot + 1 == v.generations then Reused else Used unit.slot) else Recycled unit.slot (unit.number + 1)))
+        (sym (ne_eqb _ _ more))
         (record {
           low = p.offered.low;
           high = p.offered.high;

@@ -40,7 +40,8 @@ pub record IsAtHand (g : Geometry) (cells : List (List ℕ)) (page : ℕ) : Type
   pub few : page < 131072
   pub blank : is_blank (page_at cells page) ≡ true
 
-pub at_hand_page : (g : Geometry) (cells : List (List ℕ)) (book : BookValue) (table : List (Option Entry)) (seq page : ℕ) → IsTrue g cells book table seq → IsPageBranch book page → IsAtHand g cells page
+pub at_hand_page : (g : Geometry) (cells : List (List ℕ)) (book : BookValue) (table : List (Option Entry)) (seq page : ℕ) → IsTrue g cells book table seq → IsPageBranch book page
+    → IsAtHand g cells page
 at_hand_page g cells book table seq page t (block, fill, active, at) =
     let inside : block < g.blocks = omega (arith, active_within book block fill active, t.sizes.blocks) in
     let is_active : IsTrueActive g cells block fill = subst (IsTrueState g cells block) active (t.states block inside) in
@@ -95,9 +96,11 @@ module _ (old new : DieState) (meaning : Meaning) (sizes : Sizes) (table : List 
 
   -- a put of zeros
   pub zeros_at_hand : Puts (MainBlank old.shape.main_bytes page) 1 (first_slot page) (record { sector = sector; seq = seq; kind = 3 }) old new
-      → PutsAtHand (geometry_of old.shape meaning (length table)) meaning.decoding page (record { sector = sector; seq = seq; kind = 3 }) (zero_sector (geometry_of old.shape meaning (length table))) (store old table book seq) new
+      → PutsAtHand (geometry_of old.shape meaning (length table)) meaning.decoding page (record { sector = sector; seq = seq; kind = 3 })
+      (zero_sector (geometry_of old.shape meaning (length table))) (store old table book seq) new
   zeros_at_hand p =
-      at_hand (geometry_of old.shape meaning (length table)) meaning.decoding page (record { sector = sector; seq = seq; kind = 3 }) (zero_sector (geometry_of old.shape meaning (length table))) (store old table book seq) new sized p
+      at_hand (geometry_of old.shape meaning (length table)) meaning.decoding page (record { sector = sector; seq = seq; kind = 3 }) (zero_sector (geometry_of old.shape meaning (length table)))
+      (store old table book seq) new sized p
       (shape_is old.shape meaning (length table) sizes die scheme) kept shaped shaped_new tables branch small refl
       (record { sector = narrow; seq = omega arith; least_kind = omega arith; greatest_kind = omega arith }) within refl
       (λ gated. zeros_say (geometry_of old.shape meaning (length table)) meaning.decoding new.cells (first_slot page) (record { sector = sector; seq = seq; kind = 3 }) refl)

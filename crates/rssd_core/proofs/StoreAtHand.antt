@@ -57,9 +57,11 @@ module _ {C : Type 0} {meaning : C → Meaning} {die : DieState} {scheme : C} {s
           bytes put decodes (record { long = subst (λ (x : Held C). length bytes ≡ x.geometry.sector_bytes) (sym is) long; bytes = are_bytes });
     }
 
-    pub zeros_here : Puts (MainBlank die.shape.main_bytes page) 1 (first_slot page) (zeros_header sector seq) die new → PutHere meaning die scheme table book seq page (zeros_header sector) zero_sector new
+    pub zeros_here : Puts (MainBlank die.shape.main_bytes page) 1 (first_slot page) (zeros_header sector seq) die new
+        → PutHere meaning die scheme table book seq page (zeros_header sector) zero_sector new
     zeros_here put = record {
-      put = zeros_at_hand die new (meaning scheme) sizes table book seq page sector kept.die kept.scheme kept.stands.sized same shaped shaped_new true_here branch_here small_here inside_here narrow put;
+      put =
+          zeros_at_hand die new (meaning scheme) sizes table book seq page sector kept.die kept.scheme kept.stands.sized same shaped shaped_new true_here branch_here small_here inside_here narrow put;
     }
 
 -- ---- what follows of it
@@ -78,7 +80,8 @@ module _ {C : Type 0} {meaning : C → Meaning} {die new : DieState} {scheme : C
       subst (λ (x : Held C). PutNextFailed x.geometry (meaning x.scheme).decoding (header x.cells.seq) (row x.geometry) x.cells (store new table book (seq + 1))) is
       (at_hand_failed g (meaning scheme).decoding page (header seq) (row g) (store die table book seq) new here.put failed)
 
-  module _ (gated : is_gated new (first_slot page) ≡ true) {entry : Entry} (names : entry_of (Some (record { place = first_slot page; header = header seq })) ≡ Some entry) (at : (place_of entry).page ≡ page) where
+  module _ (gated : is_gated new (first_slot page) ≡ true) {entry : Entry} (names : entry_of (Some (record { place = first_slot page; header = header seq })) ≡ Some entry)
+      (at : (place_of entry).page ≡ page) where
     gate : is_gate_charged (drop die.shape.main_bytes (page_of new page)) 0 ≡ true
     gate = gate_here die new page here.put.kept.shape gated
 
@@ -97,7 +100,8 @@ module _ {C : Type 0} {meaning : C → Meaning} {die new : DieState} {scheme : C
           (store die table book seq) (store new table' book' (seq + 1))
       put_done =
           subst (λ (t : List (Option Entry)). PutNext g (meaning scheme).decoding page (header seq) (row g) (store die table book seq) (store new t book' (seq + 1))) (sym tables)
-          (subst (λ (b : BookValue). PutNext g (meaning scheme).decoding page (header seq) (row g) (store die table book seq) (store new (slice_set table (header seq).sector (Some entry)) b (seq + 1))) (sym books)
+          (subst (λ (b : BookValue). PutNext g (meaning scheme).decoding page (header seq) (row g) (store die table book seq)
+          (store new (slice_set table (header seq).sector (Some entry)) b (seq + 1))) (sym books)
           (put_next g (meaning scheme).decoding page (header seq) (row g) (store die table book seq) new here.put gate entry names at passed))
 
       pub put_stands : {moved : ℕ} {stopped : Bool} {old : Held C} → held meaning die scheme table book seq moved stopped ≡ old

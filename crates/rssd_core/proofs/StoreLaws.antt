@@ -21,7 +21,8 @@ module _ {C : Type 0} {meaning : C → Meaning} {die new : DieState} {scheme sch
   pub after_keeps : {moved moved' : ℕ} {stopped stopped' : Bool} {old : Held C} → held meaning die scheme table book seq moved stopped ≡ old
       → Keeps meaning old (held meaning new scheme' table' book' seq' moved' stopped')
   after_keeps {moved' = moved'} {stopped' = stopped'} is =
-      subst (λ (x : Held C). Keeps meaning x (held meaning new scheme' table' book' seq' moved' stopped')) is (record { holds = holds; same_scheme = same; same_numbers = geometry_same holds.kept.shape same long })
+      subst (λ (x : Held C). Keeps meaning x (held meaning new scheme' table' book' seq' moved' stopped')) is
+      (record { holds = holds; same_scheme = same; same_numbers = geometry_same holds.kept.shape same long })
 
   pub after_held : {moved moved' : ℕ} {stopped stopped' : Bool} {sizes sizes' : Sizes} {room room' : ℕ} → IsHeld meaning sizes room (held meaning die scheme table book seq moved stopped)
       → sizes' ≡ sizes → room' ≡ room → (stopped' ≡ false → IsTrueStore (geometry_of die.shape (meaning scheme) (length table)) (store new table' book' seq'))

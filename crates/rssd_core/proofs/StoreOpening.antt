@@ -63,7 +63,8 @@ module _ {C : Type 0} {meaning : C → Meaning} {die : DieState} {scheme : C} {s
   take_parts : {block page : ℕ} {book' : BookValue} → IsTakeBranch book block → moved < 2 ^ 64 → book' ≡ with_state book block (Active 0) → page ≡ block * book.pages
       → CameToHand (geometry_of die.shape (meaning scheme) (length table)) (meaning scheme).decoding page (store die table book seq) (store die table book' seq) moved moved
   take_parts {block = block} {page = page} branch small books at =
-      subst (λ (b : BookValue). CameToHand (geometry_of die.shape (meaning scheme) (length table)) (meaning scheme).decoding page (store die table book seq) (store die table b seq) moved moved) (sym books)
+      subst (λ (b : BookValue). CameToHand (geometry_of die.shape (meaning scheme) (length table)) (meaning scheme).decoding page (store die table book seq) (store die table b seq) moved moved)
+      (sym books)
       (record {
         rise = 0;
         opened = opened_take (geometry_of die.shape (meaning scheme) (length table)) (meaning scheme).decoding block page (store die table book seq) kept.stands.sized true_before branch at;
@@ -92,16 +93,19 @@ module _ {C : Type 0} {meaning : C → Meaning} {die : DieState} {scheme : C} {s
       pub wiped_holds : (book' : BookValue) → IsErased block die new → Holds (geometry_of die.shape (meaning scheme) (length table)) (store die table book seq) (store new table book' seq)
       wiped_holds book' erased = wipe_holds (geometry_of die.shape (meaning scheme) (length table)) die new block table table book book' seq erasing erased
 
-      pub unwiped_holds : SameCells die new ⊎ ErasedInPart block die new → ChangeFailed 1 0 die new → Holds (geometry_of die.shape (meaning scheme) (length table)) (store die table book seq) (store new table book seq)
+      pub unwiped_holds : SameCells die new ⊎ ErasedInPart block die new → ChangeFailed 1 0 die new
+          → Holds (geometry_of die.shape (meaning scheme) (length table)) (store die table book seq) (store new table book seq)
       unwiped_holds how failed = torn_holds (geometry_of die.shape (meaning scheme) (length table)) (meaning scheme).decoding die new block table table book book seq erasing how failed.change_faults
 
       wipe_parts : {page : ℕ} {book' : BookValue} → IsErased block die new → Passed 1 0 die new → moved < 2 ^ 64 → book' ≡ with_state book block (Active 0) → page ≡ block * book.pages
           → CameToHand (geometry_of die.shape (meaning scheme) (length table)) (meaning scheme).decoding page (store die table book seq) (store new table book' seq) moved moved
       wipe_parts {page = page} erased passed small books at =
-          subst (λ (b : BookValue). CameToHand (geometry_of die.shape (meaning scheme) (length table)) (meaning scheme).decoding page (store die table book seq) (store new table b seq) moved moved) (sym books)
+          subst (λ (b : BookValue). CameToHand (geometry_of die.shape (meaning scheme) (length table)) (meaning scheme).decoding page (store die table book seq) (store new table b seq) moved moved)
+          (sym books)
           (record {
             rise = 0;
-            opened = opened_wipe (geometry_of die.shape (meaning scheme) (length table)) (meaning scheme).decoding block page (store die table book seq) new erasing erased passed true_before wipe_here at;
+            opened =
+                opened_wipe (geometry_of die.shape (meaning scheme) (length table)) (meaning scheme).decoding block page (store die table book seq) new erasing erased passed true_before wipe_here at;
             tally = tally_stays moved small;
           })
 
@@ -114,7 +118,8 @@ module _ {C : Type 0} {meaning : C → Meaning} {die : DieState} {scheme : C} {s
           → IsTrueStore (geometry_of die.shape (meaning scheme) (length table)) (store new table book' seq)
       wipe_true erased passed small books at = (wipe_parts erased passed small books at).opened.tables
 
-      pub wipe_fails : SameCells die new ⊎ ErasedInPart block die new → ChangeFailed 1 0 die new → OpenEnds old.geometry (meaning old.scheme).decoding (Err Change) old.cells (store new table book seq) old.moved moved
+      pub wipe_fails : SameCells die new ⊎ ErasedInPart block die new → ChangeFailed 1 0 die new
+          → OpenEnds old.geometry (meaning old.scheme).decoding (Err Change) old.cells (store new table book seq) old.moved moved
       wipe_fails how failed =
           subst (λ (x : Held C). OpenEnds x.geometry (meaning x.scheme).decoding (Err Change) x.cells (store new table book seq) x.moved moved) is
           (wipe_failed (geometry_of die.shape (meaning scheme) (length table)) (meaning scheme).decoding block (store die table book seq) new erasing how failed true_before wipe_here, refl)
@@ -125,7 +130,9 @@ module _ {C : Type 0} {meaning : C → Meaning} {die : DieState} {scheme : C} {s
     collect_here = subst (λ (x : Held C). IsCollectBranch x.cells.book victim spare) (sym is) branch
 
     pub victim_few : live_at book victim < die.shape.pages
-    victim_few = victim_has_room (geometry_of die.shape (meaning scheme) (length table)) die.cells book table seq victim spare true_before collect_here (omega (arith, kept.stands.sized.two_blocks)) kept.stands.spare
+    victim_few =
+        victim_has_room (geometry_of die.shape (meaning scheme) (length table)) die.cells book table seq victim spare true_before collect_here
+        (omega (arith, kept.stands.sized.two_blocks)) kept.stands.spare
 
     module _ {new : DieState} {table' : List (Option Entry)} {book' : BookValue} {seq' : ℕ} where
       pub collect_opened : {page moved' : ℕ} (copies : ℕ) → EraseEnds {A = ℕ} (erased_in (state_at book spare) spare) (Ok copies) die new

@@ -37,7 +37,8 @@ pub record OverHere {C : Type 0} (meaning : C → Meaning) (die : DieState) (sch
   pub decodes : Decodes (meaning scheme)
   pub sector_is : IsSector (meaning scheme) bytes
 
-pub over_here : {C : Type 0} {meaning : C → Meaning} {die new : DieState} {scheme : C} {sizes : Sizes} {table : List (Option Entry)} {book : BookValue} {seq moved room : ℕ} {stopped : Bool} {old : Held C}
+pub over_here : {C : Type 0} {meaning : C
+    → Meaning} {die new : DieState} {scheme : C} {sizes : Sizes} {table : List (Option Entry)} {book : BookValue} {seq moved room : ℕ} {stopped : Bool} {old : Held C}
     {unit : ReuseUnit} {sector : ℕ} {bytes : List ℕ} {pages span : ℕ} → held meaning die scheme table book seq moved stopped ≡ old
     → IsHeld meaning sizes room (held meaning die scheme table book seq moved stopped) → old.stopped ≡ false → IsOffer old.cells.book unit → old.cells.seq < 2 ^ 62 + 2 ^ 8
     → sector < old.geometry.sectors → sector < 2 ^ 32 → length bytes ≡ old.geometry.sector_bytes → ((k : ℕ) → slice_index bytes k < 2 ^ 8) → pages ≡ book.pages → span ≡ (meaning scheme).span
@@ -64,7 +65,8 @@ over_here {unit = unit} {sector = sector} {bytes = bytes} is kept running offer 
       sector_is = record { long = subst (λ (x : Held _). length bytes ≡ x.geometry.sector_bytes) (sym is) long; bytes = are_bytes };
     }
 
-module _ {C : Type 0} {meaning : C → Meaning} {die new : DieState} {scheme : C} {sizes : Sizes} {table : List (Option Entry)} {book : BookValue} {seq page sector : ℕ} {unit : ReuseUnit} {bytes : List ℕ}
+module _ {C : Type 0} {meaning : C → Meaning} {die new : DieState} {scheme : C} {sizes : Sizes} {table : List
+    (Option Entry)} {book : BookValue} {seq page sector : ℕ} {unit : ReuseUnit} {bytes : List ℕ}
     (here : OverHere meaning die scheme sizes table book seq unit page sector bytes new) where
   pub over_page : page < 131072
   over_page =
@@ -87,27 +89,36 @@ module _ {C : Type 0} {meaning : C → Meaning} {die new : DieState} {scheme : C
     carried_holds table' book' = over_holds (meaning scheme) sizes (store die table book seq) new unit page sector here.over bytes here.same here.shaped here.shaped_new ended.0 table' book'
 
     pub carried_within : block_in book (HeldAt (record { page = page; slot = unit.slot })) < length book.states
-    carried_within = effect_within (meaning scheme) sizes (store die table book seq) new unit page sector here.over bytes here.same here.shaped here.shaped_new ended.0 here.decodes here.sector_is ended.1 entry refl
+    carried_within =
+        effect_within (meaning scheme) sizes (store die table book seq) new unit page sector here.over bytes here.same here.shaped here.shaped_new ended.0 here.decodes here.sector_is ended.1 entry
+        refl
 
     pub carried_room : live_at book (block_in book (HeldAt (record { page = page; slot = unit.slot }))) < book.generations * book.pages
-    carried_room = effect_room (meaning scheme) sizes (store die table book seq) new unit page sector here.over bytes here.same here.shaped here.shaped_new ended.0 here.decodes here.sector_is ended.1 entry refl
+    carried_room =
+        effect_room (meaning scheme) sizes (store die table book seq) new unit page sector here.over bytes here.same here.shaped here.shaped_new ended.0 here.decodes here.sector_is ended.1 entry refl
 
     pub carried_drops : MayDrop book (former_in book (entry_at table sector))
-    carried_drops = effect_drops (meaning scheme) sizes (store die table book seq) new unit page sector here.over bytes here.same here.shaped here.shaped_new ended.0 here.decodes here.sector_is ended.1 entry refl
+    carried_drops =
+        effect_drops (meaning scheme) sizes (store die table book seq) new unit page sector here.over bytes here.same here.shaped here.shaped_new ended.0 here.decodes here.sector_is ended.1 entry refl
 
     module _ {book' : BookValue} (books : book' ≡ after_record book (block_in book (HeldAt (record { page = page; slot = unit.slot }))) (former_in book (entry_at table sector))) where
       pub carried_offer : IsOffer book' unit
       carried_offer = subst (λ (b : BookValue). IsOffer b unit) (sym books)
-          (offer_after (meaning scheme) sizes (store die table book seq) new unit page sector here.over bytes here.same here.shaped here.shaped_new ended.0 here.decodes here.sector_is ended.1 entry refl)
+          (offer_after (meaning scheme) sizes (store die table book seq) new unit page sector here.over bytes here.same here.shaped here.shaped_new ended.0 here.decodes here.sector_is ended.1 entry
+          refl)
 
-      module _ {table' : List (Option Entry)} {last : BookValue} (tables : table' ≡ slice_set table sector (Some (HeldAt (record { page = page; slot = unit.slot })))) (lasts : last ≡ passing book' unit) where
-        carried_put : PutOver (geometry_of die.shape (meaning scheme) (length table)) (meaning scheme).decoding unit (header_at sector seq) bytes (store die table book seq) (store new table' last (seq + 1))
+      module _ {table' : List (Option Entry)} {last : BookValue} (tables : table' ≡ slice_set table sector (Some (HeldAt (record { page = page; slot = unit.slot }))))
+          (lasts : last ≡ passing book' unit) where
+        carried_put : PutOver (geometry_of die.shape (meaning scheme) (length table)) (meaning scheme).decoding unit (header_at sector seq) bytes (store die table book seq)
+            (store new table' last (seq + 1))
         carried_put =
-            subst (λ (b : BookValue). PutOver (geometry_of die.shape (meaning scheme) (length table)) (meaning scheme).decoding unit (header_at sector seq) bytes (store die table book seq) (store new table' b (seq + 1)))
+            subst (λ (b : BookValue). PutOver (geometry_of die.shape (meaning scheme) (length table)) (meaning scheme).decoding unit (header_at sector seq) bytes (store die table book seq)
+            (store new table' b (seq + 1)))
             (sym (lasts ∙ ap (λ (b : BookValue). passing b unit) books))
             (subst (λ (t : List (Option Entry)). PutOver (geometry_of die.shape (meaning scheme) (length table)) (meaning scheme).decoding unit (header_at sector seq) bytes (store die table book seq)
             (store new t (passing (after_record book (block_in book entry) (former_in book (entry_at table sector))) unit) (seq + 1))) (sym tables)
-            (put_over_ends (meaning scheme) sizes (store die table book seq) new unit page sector here.over bytes here.same here.shaped here.shaped_new ended.0 here.decodes here.sector_is ended.1 entry refl ended.2))
+            (put_over_ends (meaning scheme) sizes (store die table book seq) new unit page sector here.over bytes here.same here.shaped here.shaped_new ended.0 here.decodes here.sector_is ended.1
+            entry refl ended.2))
 
         pub carried_true : IsTrueStore (geometry_of die.shape (meaning scheme) (length table)) (store new table' last (seq + 1))
         carried_true = carried_put.tables
@@ -123,7 +134,9 @@ module _ {C : Type 0} {meaning : C → Meaning} {die new : DieState} {scheme : C
     refused = subst (λ (x : Carry). SecondEnds (meaning scheme) (place_of page unit.slot) (header_at sector seq) bytes (Ok x) die new) is_so ends
 
     declined_put : OverDeclined (geometry_of die.shape (meaning scheme) (length table)) (meaning scheme).decoding unit bytes (store die table book seq) (store new table last seq)
-    declined_put = subst (λ (b : BookValue). OverDeclined (geometry_of die.shape (meaning scheme) (length table)) (meaning scheme).decoding unit bytes (store die table book seq) (store new table b seq)) (sym lasts)
+    declined_put =
+        subst (λ (b : BookValue). OverDeclined (geometry_of die.shape (meaning scheme) (length table)) (meaning scheme).decoding unit bytes (store die table book seq) (store new table b seq))
+        (sym lasts)
         (over_declined (meaning scheme) sizes (store die table book seq) new unit page sector bytes here.over refused.0 refused.1 refused.2)
 
     pub declined_holds : Holds (geometry_of die.shape (meaning scheme) (length table)) (store die table book seq) (store new table last seq)
@@ -145,7 +158,9 @@ module _ {C : Type 0} {meaning : C → Meaning} {die new : DieState} {scheme : C
     unread_holds = same_holds (geometry_of die.shape (meaning scheme) (length table)) (store die table book seq) (store new table book seq) here.same unread.0 refl
 
     pub unread_true : IsTrueStore (geometry_of die.shape (meaning scheme) (length table)) (store new table book seq)
-    unread_true = subst (λ (cells : List (List ℕ)). IsTrueStore (geometry_of die.shape (meaning scheme) (length table)) (store (record die { cells = cells }) table book seq)) (sym unread.0.cells) here.over.tables
+    unread_true =
+        subst (λ (cells : List (List ℕ)). IsTrueStore (geometry_of die.shape (meaning scheme) (length table)) (store (record die { cells = cells }) table book seq))
+        (sym unread.0.cells) here.over.tables
 
     pub unread_ends : {moved : ℕ} {stopped : Bool} {old : Held C} → held meaning die scheme table book seq moved stopped ≡ old → OverReadFailed old.geometry old.cells (store new table book seq)
     unread_ends is = subst (λ (x : Held C). OverReadFailed x.geometry x.cells (store new table book seq)) is (record { same = refl; cells = unread.0; failed = unread.1 })

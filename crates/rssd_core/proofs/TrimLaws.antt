@@ -1,6 +1,7 @@
 -- A trim, from its steps to the contract: a page was got, zeros put on it, and blocks recycled. Where a sector holds no bytes
 -- nothing changes.
-use Rattle.std.proofs.Common.{◌≡◌, ◌≢◌, ◌⊎◌, inl, inr, ℕ, ◌+◌, ◌^◌, ◌<◌, ◌≤◌, Bool, true, false, List, [], ◌∷◌, ◌++◌, length, nat_lt, not, if◌then◌else◌, Option, Some, None, Err, refl, sym, ap, ◌∙◌, subst, arith, get_or-set_same, get_or-set_other, length-set}
+use Rattle.std.proofs.Common.{◌≡◌, ◌≢◌, ◌⊎◌, inl, inr, ℕ, ◌+◌, ◌^◌, ◌<◌, ◌≤◌, Bool, true, false, List, [], ◌∷◌, ◌++◌, length, nat_lt, not, if◌then◌else◌, Option, Some, None, Err, refl, sym, ap}
+use Rattle.std.proofs.Common.{◌∙◌, subst, arith, get_or-set_same, get_or-set_other, length-set}
 use Rattle.std.specs.Prelude.{slice_set, slice_index_or}
 use Rattle.std.proofs.lemmas.Bool.{lt-ltb, cases_eq, false≢true}
 use Rattle.std.proofs.lemmas.Bool.Decides.{nat_tests}
@@ -71,7 +72,8 @@ set_same rows sector row within is = same_lists rows (slice_set rows sector row)
     (λ k e in_rows. get_or_default rows k e [] in_rows ∙ (at k (cases_eq k sector) ∙ sym (get_or_default (slice_set rows sector row) k e [] (omega (arith, in_rows, length-set rows sector row)))))
   where
     at : (k : ℕ) → (k ≡ sector) ⊎ (k ≢ sector) → slice_index_or rows k [] ≡ slice_index_or (slice_set rows sector row) k []
-    at k (inl same) = ap (λ (n : ℕ). slice_index_or rows n []) same ∙ (is ∙ (sym (get_or-set_same rows sector row [] within) ∙ ap (λ (n : ℕ). slice_index_or (slice_set rows sector row) n []) (sym same)))
+    at k (inl same) =
+        ap (λ (n : ℕ). slice_index_or rows n []) same ∙ (is ∙ (sym (get_or-set_same rows sector row [] within) ∙ ap (λ (n : ℕ). slice_index_or (slice_set rows sector row) n []) (sym same)))
     at k (inr other) = sym (get_or-set_other rows sector k row [] other)
 
 -- ---- the device before and after
@@ -89,7 +91,8 @@ TrimFaults d sector old new book stopped first second declined moved moved' = Tr
 module _ (d : Numbers) (sector : ℕ) (old : Store) (first second declined moved : ℕ) (fresh : old.seq < 2 ^ 62) where
   -- ---- nothing is put
 
-  pub trimmed_nothing : moved < 2 ^ 64 → sector < d.geometry.sectors → holds_bytes (live_record d.geometry old.die.cells sector) ≡ false → Trims d sector old old old.book first second declined moved moved
+  pub trimmed_nothing : moved < 2 ^ 64 → sector < d.geometry.sectors → holds_bytes (live_record d.geometry old.die.cells sector) ≡ false
+      → Trims d sector old old old.book first second declined moved moved
   trimmed_nothing few within none = record {
     fresh = fresh;
     rows = set_same (stored d.geometry d.meaning.decoding old.die.cells) sector (zero_sector d.geometry) (omega (arith, within, rows_long d.geometry d.meaning.decoding old.die.cells))
@@ -119,7 +122,8 @@ module _ (d : Numbers) (sector : ℕ) (old : Store) (first second declined moved
     reads_are : trim_reads d (view_at old first second declined moved) sector ≡ collection_reads d.geometry old.die.cells (next_page old.book)
     reads_are = rw held refl
 
-    trimmed_one : (page rise : ℕ) (mid : Store) (book : BookValue) → Opened d.geometry d.meaning.decoding page rise old mid → PutNext d.geometry d.meaning.decoding page (zeros_header sector mid.seq) (zero_sector d.geometry) mid new
+    trimmed_one : (page rise : ℕ) (mid : Store) (book : BookValue) → Opened d.geometry d.meaning.decoding page rise old mid
+        → PutNext d.geometry d.meaning.decoding page (zeros_header sector mid.seq) (zero_sector d.geometry) mid new
         → Recycles d.reuse_max new.book book → Trims d sector old new book first second declined moved (count_sum moved rise)
     trimmed_one page rise mid book o p recycles =
         let w = wrote_clean d sector page rise 3 0 0 (zero_sector d.geometry) old mid new book first second declined moved first second declined holds o p recycles in
@@ -127,7 +131,9 @@ module _ (d : Numbers) (sector : ℕ) (old : Store) (first second declined moved
           fresh = fresh;
           rows = w.rows;
           leaves = rw held (w.page, w.gets);
-          calls = rw held (subst (λ (n : ℕ). Went (clean_calls old.book) n (IsCollect (next_page old.book)) old.die new.die) (none_plus (collection_reads d.geometry old.die.cells (next_page old.book))) w.calls);
+          calls =
+              rw held (subst (λ (n : ℕ). Went (clean_calls old.book) n (IsCollect (next_page old.book)) old.die new.die)
+              (none_plus (collection_reads d.geometry old.die.cells (next_page old.book))) w.calls);
           book = record {
             changes = w.book.changes;
             leads = w.book.leads;
@@ -146,7 +152,8 @@ module _ (d : Numbers) (sector : ℕ) (old : Store) (first second declined moved
         none_plus n = omega arith
 
     -- The put failed on the page that was got.
-    put_failed : (page rise : ℕ) (mid : Store) → Opened d.geometry d.meaning.decoding page rise old mid → PutNextFailed d.geometry d.meaning.decoding (zeros_header sector mid.seq) (zero_sector d.geometry) mid new
+    put_failed : (page rise : ℕ) (mid : Store) → Opened d.geometry d.meaning.decoding page rise old mid
+        → PutNextFailed d.geometry d.meaning.decoding (zeros_header sector mid.seq) (zero_sector d.geometry) mid new
         → TrimFaults d sector old new new.book true first second declined moved (count_sum moved rise)
     put_failed page rise mid o f = record {
       fresh = fresh;
@@ -154,7 +161,8 @@ module _ (d : Numbers) (sector : ℕ) (old : Store) (first second declined moved
         changes = calls_before old.book (next_page old.book) + 2;
         reads = 0 + collection_reads d.geometry old.die.cells (next_page old.book) + 0;
         within = record { changes_at_most = omega (arith, calls_are); reads_at_most = omega (arith, reads_are) };
-        failed = change_failed_then (calls_before old.book (next_page old.book)) (0 + collection_reads d.geometry old.die.cells (next_page old.book)) 2 0 old.die mid.die new.die o.calls.within f.failed;
+        failed =
+            change_failed_then (calls_before old.book (next_page old.book)) (0 + collection_reads d.geometry old.die.cells (next_page old.book)) 2 0 old.die mid.die new.die o.calls.within f.failed;
         rows = λ sound. elim f.rows [ inl same ↦ inl (same ∙ o.rows) | inr done ↦ inr (done ∙ ap (λ (rows : List (List ℕ)). slice_set rows sector (zero_sector d.geometry)) o.rows) ];
         stopped = refl;
       });
@@ -171,9 +179,12 @@ module _ (d : Numbers) (sector : ℕ) (old : Store) (first second declined moved
             ∙ sym (ap (λ (t : Bool). if t then live_at old.book victim else 0) (lt-ltb (collection_calls old.book (next_page old.book)) (cut_of old.die)
             (subst (λ (n : NextPage). collection_calls old.book n < cut_of old.die) (sym is)
             (subst (λ (n : NextPage). calls_before old.book n < cut_of old.die) is
-            (cut_later (calls_before old.book (next_page old.book)) (0 + collection_reads d.geometry old.die.cells (next_page old.book)) 2 0 old.die mid.die new.die o.calls.within f.failed power came)))));
+            (cut_later (calls_before old.book (next_page old.book))
+            (0 + collection_reads d.geometry old.die.cells (next_page old.book)) 2 0 old.die mid.die new.die o.calls.within f.failed power came)))));
       };
-      seq = moves_seq d old new (view_at old first second declined moved) (view_at new first second declined (count_sum moved rise)) refl refl refl refl holds (omega (arith, o.few, ap (λ (s : Store). s.seq) f.same));
+      seq =
+          moves_seq d old new (view_at old first second declined moved) (view_at new first second declined (count_sum moved rise)) refl refl refl refl holds
+          (omega (arith, o.few, ap (λ (s : Store). s.seq) f.same));
       counts = record { first = refl; second = refl; declined = refl };
     }
 
@@ -211,7 +222,8 @@ module _ (d : Numbers) (sector : ℕ) (old : Store) (first second declined moved
         not_below a b h = grind (arith, nat_tests)
 
     -- A read failed before the page was got: the device goes on.
-    read_failed : (book : BookValue) → moved < 2 ^ 64 → OpenReadFailed d.geometry d.meaning.decoding 0 0 old new → Recycles d.reuse_max new.book book → TrimFaults d sector old new book false first second declined moved moved
+    read_failed : (book : BookValue) → moved < 2 ^ 64 → OpenReadFailed d.geometry d.meaning.decoding 0 0 old new → Recycles d.reuse_max new.book book
+        → TrimFaults d sector old new book false first second declined moved moved
     read_failed book few f recycles = record {
       fresh = fresh;
       fault = inl (record {
@@ -226,11 +238,17 @@ module _ (d : Numbers) (sector : ℕ) (old : Store) (first second declined moved
       book = record {
         changes = f.changes ++ (Offers ∷ []);
         leads = leads_append d.reuse_max old.book new.book book f.changes (Offers ∷ []) (f.leads d.reuse_max) (leads_one d.reuse_max new.book book Offers recycles);
-        may = (omega (arith, count_by-append is_pass f.changes (Offers ∷ []), f.passed_so), once_append f.changes (Offers ∷ []) f.once (refl, refl, refl, refl, refl), record { before = f.changes; last = refl; none_before = f.none_offered });
+        may = (
+          omega (arith, count_by-append is_pass f.changes (Offers ∷ []), f.passed_so),
+          once_append f.changes (Offers ∷ []) f.once (refl, refl, refl, refl, refl),
+          record { before = f.changes; last = refl; none_before = f.none_offered },
+        );
         rise = 0;
         rises = sym (sealed_offers old.book f.changes ∙ f.none_sealed);
         tally = omega arith;
-        at_cut = λ power came. absurd (read_failed_no_cut (calls_before old.book (next_page old.book)) (0 + collection_reads d.geometry old.die.cells (next_page old.book)) old.die new.die f.failed power came);
+        at_cut =
+            λ power came. absurd (read_failed_no_cut (calls_before old.book (next_page old.book))
+            (0 + collection_reads d.geometry old.die.cells (next_page old.book)) old.die new.die f.failed power came);
       };
       seq = moves_seq d old new (view_at old first second declined moved) (view_at (record new { book = book }) first second declined moved) refl refl refl refl holds (omega (arith, f.few));
       counts = record { first = refl; second = refl; declined = refl };
@@ -238,13 +256,15 @@ module _ (d : Numbers) (sector : ℕ) (old : Store) (first second declined moved
 
     -- ---- however the put ended
 
-    pub trimmed : (moved' : ℕ) (book : BookValue) → Cleared d.geometry d.meaning.decoding sector old new moved moved' → Recycles d.reuse_max new.book book → Trims d sector old new book first second declined moved moved'
+    pub trimmed : (moved' : ℕ) (book : BookValue) → Cleared d.geometry d.meaning.decoding sector old new moved moved' → Recycles d.reuse_max new.book book
+        → Trims d sector old new book first second declined moved moved'
     trimmed moved' book p recycles = subst (λ (m : ℕ). Trims d sector old new book first second declined moved m) (sym p.tally) (trimmed_one p.page p.rise p.mid book p.opened p.put recycles)
 
     pub trim_unread : (moved' : ℕ) (book : BookValue) → moved < 2 ^ 64 → ClearEnds d.geometry d.meaning.decoding sector (Err (faults.Read)) old new moved moved' → Recycles d.reuse_max new.book book
         → TrimFaults d sector old new book false first second declined moved moved'
     trim_unread moved' book few p recycles = subst (λ (m : ℕ). TrimFaults d sector old new book false first second declined moved m) (sym p.1) (read_failed book few p.0 recycles)
 
-    pub trim_unchanged : (moved' : ℕ) → moved < 2 ^ 64 → ClearEnds d.geometry d.meaning.decoding sector (Err (faults.Change)) old new moved moved' → TrimFaults d sector old new new.book true first second declined moved moved'
+    pub trim_unchanged : (moved' : ℕ) → moved < 2 ^ 64 → ClearEnds d.geometry d.meaning.decoding sector (Err (faults.Change)) old new moved moved'
+        → TrimFaults d sector old new new.book true first second declined moved moved'
     trim_unchanged moved' few (inl p) = subst (λ (m : ℕ). TrimFaults d sector old new new.book true first second declined moved m) (sym p.1) (open_failed few p.0)
     trim_unchanged moved' few (inr p) = subst (λ (m : ℕ). TrimFaults d sector old new new.book true first second declined moved m) (sym p.tally) (put_failed p.page p.rise p.mid p.opened p.put)

@@ -1,5 +1,6 @@
 -- The victim of a collection has fewer live records than a block has pages, where the sectors leave a block and a page to spare.
-use Rattle.std.proofs.Common.{◌≡◌, ◌≢◌, inl, inr, ℕ, zero, suc, ◌+◌, ◌-◌, ◌*◌, ◌<◌, ◌≤◌, Bool, true, false, cond, List, [], ◌∷◌, length, ◌==◌, nat_lt, Option, Some, None, refl, sym, ap, ◌∙◌, subst, arith}
+use Rattle.std.proofs.Common.{◌≡◌, ◌≢◌, inl, inr, ℕ, zero, suc, ◌+◌, ◌-◌, ◌*◌, ◌<◌, ◌≤◌, Bool, true, false, cond, List, [], ◌∷◌, length, ◌==◌, nat_lt, Option, Some, None, refl, sym, ap, ◌∙◌}
+use Rattle.std.proofs.Common.{subst, arith}
 use native.Mathlib.Nat.{suc-mul}
 use Rattle.std.specs.List.{count_by, range_with_len}
 use Rattle.std.proofs.lemmas.Bool.{cases_eq, cases_lt}
@@ -35,14 +36,16 @@ unfolding stands_below
 below_more g n None = refl
 below_more g n (Some placed) = one_more (block_of g placed.place.page) n
 
-module _ (g : Geometry) (cells : List (List ℕ)) (book : BookValue) (table : List (Option Entry)) (seq victim spare : ℕ) (t : IsTrue g cells book table seq) (branch : IsCollectBranch book victim spare) where
+module _ (g : Geometry) (cells : List (List ℕ)) (book : BookValue) (table : List (Option Entry)) (seq victim spare : ℕ) (t : IsTrue g cells book table seq)
+    (branch : IsCollectBranch book victim spare) where
   -- the sectors whose live records stand in blocks below n
   lives_below : ℕ → ℕ
   lives_below n = count_by (λ s. stands_below g n (live_record g cells s)) (range_with_len 0 g.sectors)
 
   lives_more : (n : ℕ) → lives_below (n + 1) ≡ lives_below n + live_count g cells n
   unfolding lives_below live_count
-  lives_more n = count_split (λ s. stands_below g n (live_record g cells s)) (λ s. stands_in g n (live_record g cells s)) (λ s. stands_below g (n + 1) (live_record g cells s)) (range_with_len 0 g.sectors)
+  lives_more n =
+      count_split (λ s. stands_below g n (live_record g cells s)) (λ s. stands_in g n (live_record g cells s)) (λ s. stands_below g (n + 1) (live_record g cells s)) (range_with_len 0 g.sectors)
       (λ s. below_more g n (live_record g cells s))
 
   -- every block but the Spare is closed

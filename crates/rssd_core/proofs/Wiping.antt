@@ -63,7 +63,8 @@ committed_record g cells place (Some k) h e = at (is_committed g cells place k) 
 
 pub committed_within : (g : Geometry) (cells : List (List ℕ)) (place : Place) (h : Header) → committed_in g cells place ≡ Some h → h.sector < g.sectors
 unfolding committed_in record_in
-committed_within g cells place h e = record_within g (header_in g cells place) h (may_hold g place) (committed_record g cells place (if may_hold g place then below_sectors g (header_in g cells place) else None) h e)
+committed_within g cells place h e =
+    record_within g (header_in g cells place) h (may_hold g place) (committed_record g cells place (if may_hold g place then below_sectors g (header_in g cells place) else None) h e)
 
 record_header : (g : Geometry) (o : Option Header) (h : Header) (may : Bool) → (if may then below_sectors g o else None) ≡ Some h → o ≡ Some h
 record_header g None h true e = absurd (none-some h e)
@@ -77,7 +78,8 @@ record_header g (Some k) h true e = at (nat_lt k.sector g.sectors) e
 -- .. and its header is valid
 pub committed_header : (g : Geometry) (cells : List (List ℕ)) (place : Place) (h : Header) → committed_in g cells place ≡ Some h → header_in g cells place ≡ Some h
 unfolding committed_in record_in
-committed_header g cells place h e = record_header g (header_in g cells place) h (may_hold g place) (committed_record g cells place (if may_hold g place then below_sectors g (header_in g cells place) else None) h e)
+committed_header g cells place h e =
+    record_header g (header_in g cells place) h (may_hold g place) (committed_record g cells place (if may_hold g place then below_sectors g (header_in g cells place) else None) h e)
 
 pub live_of : (g : Geometry) (cells : List (List ℕ)) (sector : ℕ) (x : Placed) → live_record g cells sector ≡ Some x → (committed_in g cells x.place ≡ Some x.header) × (x.header.sector ≡ sector)
 unfolding live_record
@@ -115,7 +117,8 @@ wiped_header g old new block w place h e = elim (cases_eq (block_of g place.page
 ]
 
 wiped_none : (g : Geometry) (old new : List (List ℕ)) (block : ℕ) → WipesBlock g old new block → (place : Place) → block_of g place.page ≡ block → committed_in g new place ≡ None
-wiped_none g old new block w place here = ungated g new place (blank_ungated (drop g.main_bytes (page_at new place.page)) place.slot (blank_slot g.main_bytes place.slot (page_at new place.page) (w.blank place.page here)))
+wiped_none g old new block w place here =
+    ungated g new place (blank_ungated (drop g.main_bytes (page_at new place.page)) place.slot (blank_slot g.main_bytes place.slot (page_at new place.page) (w.blank place.page here)))
 
 first_page_block : (g : Geometry) (b : ℕ) → 0 < g.pages → block_of g (b * g.pages) ≡ b
 first_page_block g b some = ap (block_of g) (plus_none (b * g.pages)) ∙ block_of_page g b 0 some
@@ -123,13 +126,18 @@ first_page_block g b some = ap (block_of g) (plus_none (b * g.pages)) ∙ block_
     plus_none : (n : ℕ) → n ≡ n + 0
     plus_none n = omega arith
 
-wiped_stays : (g : Geometry) (old new : List (List ℕ)) (block : ℕ) → 0 < g.pages → WipesBlock g old new block → (place : Place) → block_of g place.page ≢ block → committed_in g new place ≡ committed_in g old place
+wiped_stays : (g : Geometry) (old new : List (List ℕ)) (block : ℕ) → 0 < g.pages → WipesBlock g old new block → (place : Place) → block_of g place.page ≢ block
+    → committed_in g new place ≡ committed_in g old place
 wiped_stays g old new block some w place apart =
     committed_stays g old new place
-    (record { gate = ap (λ (bytes : List ℕ). is_gate_charged (drop g.main_bytes bytes) place.slot) (w.others place.page apart); word = ap (λ (bytes : List ℕ). word_at (drop g.main_bytes bytes) place.slot) (w.others place.page apart) })
+    (record {
+      gate = ap (λ (bytes : List ℕ). is_gate_charged (drop g.main_bytes bytes) place.slot) (w.others place.page apart);
+      word = ap (λ (bytes : List ℕ). word_at (drop g.main_bytes bytes) place.slot) (w.others place.page apart);
+    })
     (ap (λ (bytes : List ℕ). is_seal_charged (drop g.main_bytes bytes)) (w.others (block_of g place.page * g.pages) (λ e. apart (sym (first_page_block g (block_of g place.page) some) ∙ e))))
 
-wiped_live : (g : Geometry) (old new : List (List ℕ)) (block : ℕ) → IsSized g → WipesBlock g old new block → live_count g old block ≡ 0 → (sector : ℕ) → live_record g new sector ≡ live_record g old sector
+wiped_live : (g : Geometry) (old new : List (List ℕ)) (block : ℕ) → IsSized g → WipesBlock g old new block → live_count g old block ≡ 0 → (sector : ℕ)
+    → live_record g new sector ≡ live_record g old sector
 wiped_live g old new block sized w free sector =
     vanishing_keeps g old new (omega (arith, sized.two_slots))
     (λ place h e. elim (cases_eq (block_of g place.page) block) [
@@ -143,7 +151,8 @@ pub wiped_blanks : (g : Geometry) (old new : List (List ℕ)) (block : ℕ) → 
 wiped_blanks g old new block sized w free = record { live = wiped_live g old new block sized w free; headers = wiped_header g old new block w; others = w.others; blank = w.blank }
 
 -- the pages that a live record is read from stand in its block
-pub read_in_block : (g : Geometry) (cells : List (List ℕ)) (sector i : ℕ) (x : Placed) → IsSized g → live_record g cells sector ≡ Some x → i < pages_read g x → block_of g (x.place.page + i) ≡ block_of g x.place.page
+pub read_in_block : (g : Geometry) (cells : List (List ℕ)) (sector i : ℕ) (x : Placed) → IsSized g → live_record g cells sector ≡ Some x → i < pages_read g x
+    → block_of g (x.place.page + i) ≡ block_of g x.place.page
 read_in_block g cells sector i x sized e within = at (x.place.slot == 0) refl within
   where
     at : (t : Bool) → (x.place.slot == 0) ≡ t → i < (if t then 1 else g.span) → block_of g (x.place.page + i) ≡ block_of g x.place.page
@@ -212,7 +221,8 @@ page_below g block page some inside here =
     below : (b n w i : ℕ) → b < n → i < w → b * w + i < n * w
     below b n w i h k = omega (arith, mul-le-mul_right w h, suc-mul b w)
 
-pub wipe_fell : (g : Geometry) (old new : DieState) (block : ℕ) → IsSized g → block < g.blocks → old.shape ≡ shape_of g → IsShaped old → OnlyBlock block old new → IsErased block old new → FellIn g old.cells new.cells block
+pub wipe_fell : (g : Geometry) (old new : DieState) (block : ℕ) → IsSized g → block < g.blocks → old.shape ≡ shape_of g → IsShaped old → OnlyBlock block old new → IsErased block old new
+    → FellIn g old.cells new.cells block
 wipe_fell g old new block sized inside shape shaped only erased = record {
   others = λ page apart. only.pages page (λ e. apart (same_block page ∙ e));
   fell = λ page here. subst (λ (bytes : List ℕ). IsAbove (page_of old page) bytes) (sym (erased.blank page (sym (same_block page) ∙ here)))
@@ -281,11 +291,13 @@ pub torn_erase : (g : Geometry) (d : Decoding) (old new : DieState) (block : ℕ
 torn_erase g d old new block e (inl same) sound = same_torn g d old new same sound
 torn_erase g d old new block e (inr part) sound = part_torn g d old new block e part sound
 
-torn_pads : (g : Geometry) (old new : DieState) (block : ℕ) → Erasing g old new block → SameCells old new ⊎ ErasedInPart block old new → NoPadCharged (shape_of g) old.cells → NoPadCharged (shape_of g) new.cells
+torn_pads : (g : Geometry) (old new : DieState) (block : ℕ) → Erasing g old new block → SameCells old new ⊎ ErasedInPart block old new → NoPadCharged (shape_of g) old.cells
+    → NoPadCharged (shape_of g) new.cells
 torn_pads g old new block e (inl same) none = subst (NoPadCharged (shape_of g)) (sym same.cells) none
 torn_pads g old new block e (inr part) none = fell_pads g old.cells new.cells block (erase_fell g old new block e.shape e.only part) none
 
-pub torn_holds : (g : Geometry) (d : Decoding) (old new : DieState) (block : ℕ) (table table' : List (Option Entry)) (book book' : BookValue) (seq : ℕ) → Erasing g old new block → SameCells old new ⊎ ErasedInPart block old new
+pub torn_holds : (g : Geometry) (d : Decoding) (old new : DieState) (block : ℕ) (table table' : List (Option Entry)) (book book' : BookValue) (seq : ℕ) → Erasing g old new block
+    → SameCells old new ⊎ ErasedInPart block old new
     → Rose old.change_faults new.change_faults → Holds g (store old table book seq) (store new table' book' seq)
 torn_holds g d old new block table table' book book' seq e how rose = record {
   kept = e.kept;

@@ -69,7 +69,8 @@ fills_one r g d page h row old new t p = leads_one r old.book new.book (Fills (f
 pub not_rose : (before now : ℕ) → (Rose before now → ⊥) → Stayed before now
 not_rose before now never = elim (cases_lt now (raised before)) [ inl stayed ↦ stayed | inr rose ↦ absurd (never rose) ]
 
-pub moves_seq : (d : Numbers) (old new : Store) (a b : DeviceView) → a.die ≡ old.die → b.die ≡ new.die → a.seq ≡ old.seq → b.seq ≡ new.seq → stores.Holds d.geometry old new → new.seq < old.seq + 2 ^ 8 → MovesSeq d a b
+pub moves_seq : (d : Numbers) (old new : Store) (a b : DeviceView) → a.die ≡ old.die → b.die ≡ new.die → a.seq ≡ old.seq → b.seq ≡ new.seq → stores.Holds d.geometry old new
+    → new.seq < old.seq + 2 ^ 8 → MovesSeq d a b
 moves_seq d old new a b a_die b_die a_seq b_seq holds few = record {
   not_less = omega (arith, holds.seqs);
   few = omega arith;
@@ -114,7 +115,8 @@ pub record WroteClean (d : Numbers) (sector kind : ℕ) (bytes : List ℕ) (pass
 
 pub wrote_clean : (d : Numbers) (sector page rise kind passed before : ℕ) (bytes : List ℕ) (old mid new : Store) (book : BookValue) (first second declined moved first' second' declined' : ℕ)
     → stores.Holds d.geometry old new
-    → OpenedAfter d.geometry d.meaning.decoding passed before page rise old mid → PutNext d.geometry d.meaning.decoding page (record { sector = sector; seq = mid.seq; kind = kind }) bytes mid new → Recycles d.reuse_max new.book book
+    → OpenedAfter d.geometry d.meaning.decoding passed before page rise old mid → PutNext d.geometry d.meaning.decoding page (record { sector = sector; seq = mid.seq; kind = kind }) bytes mid new
+    → Recycles d.reuse_max new.book book
     → WroteClean d sector kind bytes passed before (view_at old first second declined moved) (view_at (record new { book = book }) first' second' declined' (count_sum moved rise))
 wrote_clean d sector page rise kind passed before bytes old mid new book first second declined moved first' second' declined' holds o p recycles = record {
   rows = p.rows ∙ ap (λ (rows : List (List ℕ)). slice_set rows sector bytes) o.rows;
@@ -128,7 +130,8 @@ wrote_clean d sector page rise kind passed before bytes old mid new book first s
   book = record {
     changes = o.changes ++ ending (former_block mid.book mid.table sector);
     leads = leads_append d.reuse_max old.book mid.book book o.changes (ending (former_block mid.book mid.table sector)) (o.leads d.reuse_max)
-        (leads_append d.reuse_max mid.book new.book book (Fills (former_block mid.book mid.table sector) ∷ []) (Offers ∷ []) (fills_one d.reuse_max d.geometry d page (record { sector = sector; seq = mid.seq; kind = kind }) bytes mid new o.tables p)
+        (leads_append d.reuse_max mid.book new.book book (Fills (former_block mid.book mid.table sector) ∷ []) (Offers ∷ [])
+        (fills_one d.reuse_max d.geometry d page (record { sector = sector; seq = mid.seq; kind = kind }) bytes mid new o.tables p)
         (leads_one d.reuse_max new.book book Offers recycles));
     may = (
       omega (arith, count_by-append is_pass o.changes (ending (former_block mid.book mid.table sector)), o.passed_so),
@@ -142,9 +145,13 @@ wrote_clean d sector page rise kind passed before bytes old mid new book first s
     rise = rise;
     rises = o.rises ∙ sym (sealed_ending old.book o.changes (former_block mid.book mid.table sector));
     tally = refl;
-    at_cut = λ power came. absurd (no_cut_came (calls_before old.book (next_page old.book) + 2) (before + collection_reads d.geometry old.die.cells (next_page old.book) + 0) old.die new.die went.within power came);
+    at_cut =
+        λ power came. absurd (no_cut_came (calls_before old.book (next_page old.book) + 2)
+        (before + collection_reads d.geometry old.die.cells (next_page old.book) + 0) old.die new.die went.within power came);
   };
-  seq = moves_seq d old new (view_at old first second declined moved) (view_at (record new { book = book }) first' second' declined' (count_sum moved rise)) refl refl refl refl holds (omega (arith, o.few, p.seq));
+  seq =
+      moves_seq d old new (view_at old first second declined moved) (view_at (record new { book = book }) first' second' declined' (count_sum moved rise)) refl refl refl refl holds
+      (omega (arith, o.few, p.seq));
 }
   where
     plus_none : (n : ℕ) → n + 0 ≡ n
@@ -154,12 +161,15 @@ wrote_clean d sector page rise kind passed before bytes old mid new book first s
     last_drawn = omega (arith, p.seq)
 
     went : Went (calls_before old.book (next_page old.book) + 2) (before + collection_reads d.geometry old.die.cells (next_page old.book) + 0) (IsCollect (next_page old.book)) old.die new.die
-    went = went_trans (calls_before old.book (next_page old.book)) (before + collection_reads d.geometry old.die.cells (next_page old.book)) 2 0 (IsCollect (next_page old.book)) old.die mid.die new.die o.calls p.calls
+    went =
+        went_trans (calls_before old.book (next_page old.book)) (before + collection_reads d.geometry old.die.cells (next_page old.book)) 2 0
+        (IsCollect (next_page old.book)) old.die mid.die new.die o.calls p.calls
 
 -- no unit was offered
 pub wrote_first : (d : Numbers) (sector page rise : ℕ) (bytes : List ℕ) (old mid new : Store) (book : BookValue) (first second declined moved : ℕ)
     → old.seq < 2 ^ 62 → second < 2 ^ 64 → declined < 2 ^ 64 → offer_of old.book ≡ None → stores.Holds d.geometry old new
-    → Opened d.geometry d.meaning.decoding page rise old mid → PutNext d.geometry d.meaning.decoding page (record { sector = sector; seq = mid.seq; kind = 1 }) bytes mid new → Recycles d.reuse_max new.book book
+    → Opened d.geometry d.meaning.decoding page rise old mid → PutNext d.geometry d.meaning.decoding page (record { sector = sector; seq = mid.seq; kind = 1 }) bytes mid new
+    → Recycles d.reuse_max new.book book
     → Wrote d sector bytes First
     (record { numbers = d; view = view_at old first second declined moved; stopped = false })
     (record { numbers = d; view = view_at (record new { book = book }) (count_sum first 1) second declined (count_sum moved rise); stopped = false })
@@ -183,7 +193,8 @@ wrote_first d sector page rise bytes old mid new book first second declined move
 -- a unit was offered, and no cells above it carry the sector
 pub wrote_declined : (d : Numbers) (sector page rise : ℕ) (bytes : List ℕ) (old mid new : Store) (book : BookValue) (first second declined moved : ℕ)
     → old.seq < 2 ^ 62 → first < 2 ^ 64 → second < 2 ^ 64 → OfferDeclines d (view_at old first second declined moved) bytes → stores.Holds d.geometry old new
-    → OpenedAfter d.geometry d.meaning.decoding 1 d.geometry.span page rise old mid → PutNext d.geometry d.meaning.decoding page (record { sector = sector; seq = mid.seq; kind = 1 }) bytes mid new → Recycles d.reuse_max new.book book
+    → OpenedAfter d.geometry d.meaning.decoding 1 d.geometry.span page rise old mid → PutNext d.geometry d.meaning.decoding page (record { sector = sector; seq = mid.seq; kind = 1 }) bytes mid new
+    → Recycles d.reuse_max new.book book
     → Wrote d sector bytes Declined
     (record { numbers = d; view = view_at old first second declined moved; stopped = false })
     (record { numbers = d; view = view_at (record new { book = book }) first second (count_sum declined 1) (count_sum moved rise); stopped = false })

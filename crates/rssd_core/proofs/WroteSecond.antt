@@ -59,7 +59,11 @@ wrote_second d sector unit bytes old new book first second declined moved fresh 
         (leads_append d.reuse_max after new.book book (Passes unit ∷ []) (Offers ∷ [])
         (leads_one d.reuse_max after new.book (Passes unit) (offer_is after unit (offer_recorded old.book unit unit.block former offer), p.book))
         (leads_one d.reuse_max new.book book Offers recycles));
-    may = (refl, record { takes = omega arith; wipes = omega arith; erases = omega arith; copies = omega arith; seals = omega arith }, record { before = Rewrites unit former ∷ Passes unit ∷ []; last = refl; none_before = refl });
+    may = (
+      refl,
+      record { takes = omega arith; wipes = omega arith; erases = omega arith; copies = omega arith; seals = omega arith },
+      record { before = Rewrites unit former ∷ Passes unit ∷ []; last = refl; none_before = refl },
+    );
     rise = 0;
     rises = refl;
     tally = omega arith;

@@ -68,8 +68,10 @@ impl<D: Die + Drop, C: Scheme + Drop> Store<D, C> {
         requires small { self.old.cells.seq < 2 ^ 62 + 2 ^ 8 }
         requires sector { sector < self.old.geometry.sectors }
         ensures keeps { Keeps C.meaning self.old self.new }
-        ensures put { OnOk result (PutNext self.old.geometry (C.meaning self.old.scheme).decoding page (zeros_header sector self.old.cells.seq) (zero_sector self.old.geometry) self.old.cells self.new.cells) }
-        ensures failed { OnErr result (PutNextFailed self.old.geometry (C.meaning self.old.scheme).decoding (zeros_header sector self.old.cells.seq) (zero_sector self.old.geometry) self.old.cells self.new.cells) }
+        ensures put { OnOk result (PutNext self.old.geometry (C.meaning self.old.scheme).decoding page (zeros_header sector self.old.cells.seq)
+            (zero_sector self.old.geometry) self.old.cells self.new.cells) }
+        ensures failed { OnErr result (PutNextFailed self.old.geometry (C.meaning self.old.scheme).decoding (zeros_header sector self.old.cells.seq)
+            (zero_sector self.old.geometry) self.old.cells self.new.cells) }
         ensures same_moved { self.new.moved ≡ self.old.moved }
         ensures stopped { self.new.stopped ≡ is_err result }
     {

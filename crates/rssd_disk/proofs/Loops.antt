@@ -1,5 +1,6 @@
 -- Turns of the loops over sectors: each puts or reads what is next.
-use Rattle.std.proofs.Common.{◌≡◌, ℕ, ◌+◌, ◌-◌, ◌*◌, ◌/◌, ◌%◌, ◌^◌, ◌<◌, ◌≤◌, false, min, List, [], ◌++◌, length, take, drop, replicate, sym, ◌∙◌, ap, refl, inl, inr, arith, subst, Result, Ok, Err, OnErr}
+use Rattle.std.proofs.Common.{◌≡◌, ℕ, ◌+◌, ◌-◌, ◌*◌, ◌/◌, ◌%◌, ◌^◌, ◌<◌, ◌≤◌, false, min, List, [], ◌++◌, length, take, drop, replicate, sym, ◌∙◌, ap, refl, inl, inr, arith, subst, Result, Ok}
+use Rattle.std.proofs.Common.{Err, OnErr}
 use borrow.Rule.Slice.PartMut.{put_mid}
 use Rattle.std.proofs.Math.Nat.{mul-mod_left, add-mul, one-mul}
 use Rattle.std.proofs.Math.Seq.{take-add}

@@ -70,7 +70,8 @@ charge_from f h (suc n) a =
     let rest : List Bool = map (λ i. nat_eq (f i) 1) (range_with_len (a + 1) n) in
     let at : a + 0 ≡ a = omega arith in
     let first : f (a + 0) ≡ f a = ap f at in
-    let later : digit_sum n (λ i. f (a + 1 + i)) ≡ digit_sum n (λ i. f (a + suc i)) = digit_sum-same n (λ i. f (a + 1 + i)) (λ i. f (a + suc i)) (λ i l. let e : a + 1 + i ≡ a + suc i = omega arith in ap f e) in
+    let later : digit_sum n (λ i. f (a + 1 + i)) ≡ digit_sum n (λ i. f (a + suc i)) =
+    digit_sum-same n (λ i. f (a + 1 + i)) (λ i. f (a + suc i)) (λ i l. let e : a + 1 + i ≡ a + suc i = omega arith in ap f e) in
     omega (arith, sum_by-cons (λ c. cond c 1 0) (nat_eq (f a) 1) rest, digit_one (f a) (h a), charge_from f h n (a + 1), first, later)
 
 -- the charge of a row is the ones of its words

@@ -2,7 +2,8 @@
 use Rattle.std.proofs.Common.{◌≡◌, ℕ, suc, ◌+◌, ◌-◌, ◌<◌, ◌≤◌, ◌↔◌, Bool, true, false, not, ◌&&◌, cond, List, ◌∷◌, ◌++◌}
 use Rattle.std.proofs.Common.{length, set, take, drop, nat_eq, nat_le, sym, ◌∙◌, ap, subst, refl, inl, inr, arith}
 use Rattle.std.proofs.lemmas.Bool.{cases_lt, cases_eq, and_parts, and_from, true≢false, not-true, lt-ltb, ltb-true}
-use Rattle.std.proofs.lemmas.List.{get_or-take, get_or-drop, get_or_append_left, get_or-append_right, take_at, get_or_past, get_or-set_same, get_or-set_other, length-set, ext_get_or, length-take, length-append, length-drop}
+use Rattle.std.proofs.lemmas.List.{get_or-take, get_or-drop, get_or_append_left, get_or-append_right, take_at, get_or_past, get_or-set_same, get_or-set_other, length-set, ext_get_or, length-take}
+use Rattle.std.proofs.lemmas.List.{length-append, length-drop}
 use Rattle.std.proofs.lemmas.List.Sums.{sum_by-cons, sum_by-append}
 use Rattle.wom_code.specs.Cells.{cell_at, IsAbove, Carries, NoneCarries, charge_of}
 use Rattle.wom_code.specs.Packed.{IsRow, word_bit, cells_of}
@@ -114,7 +115,8 @@ flag_off false h = refl
 straight_test : (k : ℕ) (old message : List Bool) (flagged straight turned : Bool) → IsTested k old message flagged straight turned → IsPossible k old message false → (straight && not flagged) ≡ true
 straight_test k old message flagged straight turned t p = and_from _ _ (t.straight_from p.front) (flag_off flagged (λ e. p.flag (t.flag ∙ e)))
 
-none_possible : (k : ℕ) (old message : List Bool) (flagged straight turned : Bool) → IsTested k old message flagged straight turned → (straight && not flagged) ≡ false → turned ≡ false → (f : Bool) → IsPossible k old message f → ⊥
+none_possible : (k : ℕ) (old message : List Bool) (flagged straight turned : Bool) → IsTested k old message flagged straight turned → (straight && not flagged) ≡ false → turned ≡ false → (f : Bool)
+    → IsPossible k old message f → ⊥
 none_possible k old message flagged straight turned t a b true p = true≢false (sym (t.turned_from p.front) ∙ b)
 none_possible k old message flagged straight turned t a b false p = true≢false (sym (straight_test k old message flagged straight turned t p) ∙ a)
 
@@ -122,13 +124,15 @@ pub flip_none : (k n : ℕ) (old message : List Bool) (flagged straight turned :
     NoneCarries (flip_message k) n old message
 flip_none k n old message flagged straight turned t a b new len c = none_possible k old message flagged straight turned t a b (cell_at new k) (carried_possible k old message new c)
 
-choice_possible : (k : ℕ) (old message : List Bool) (flagged straight turned : Bool) (ones : ℕ) (f : Bool) → IsTested k old message flagged straight turned → IsChoice flagged straight turned ones k f → IsPossible k old message f
+choice_possible : (k : ℕ) (old message : List Bool) (flagged straight turned : Bool) (ones : ℕ) (f : Bool) → IsTested k old message flagged straight turned
+    → IsChoice flagged straight turned ones k f → IsPossible k old message f
 choice_possible k old message flagged straight turned ones true t c = record { front = t.turned_to c.possible; flag = λ e. refl }
 choice_possible k old message flagged straight turned ones false t c =
     let parts = and_parts straight (not flagged) c.possible in
     record { front = t.straight_to parts.0; flag = λ e. absurd (true≢false (sym (sym t.flag ∙ e) ∙ not-true flagged parts.1)) }
 
-pub choice_carries : (k : ℕ) (old message : List Bool) (flagged straight turned : Bool) (ones : ℕ) (f : Bool) → IsTested k old message flagged straight turned → IsChoice flagged straight turned ones k f →
+pub choice_carries : (k : ℕ) (old message : List Bool) (flagged straight turned : Bool) (ones : ℕ) (f : Bool) → IsTested k old message flagged straight turned
+    → IsChoice flagged straight turned ones k f →
     Carries (flip_message k) old message (flip_cells k old message f)
 choice_carries k old message flagged straight turned ones f t c = record {
   above = flip_above k old message f t.len (choice_possible k old message flagged straight turned ones f t c);
@@ -155,7 +159,8 @@ weighed k old message len =
     let both = charge-turned message in
     record { ones = omega arith; less = λ h. omega arith; more = λ h. omega arith }
 
-fewest_at : (k : ℕ) (old message : List Bool) (flagged straight turned : Bool) (f g : Bool) → IsTested k old message flagged straight turned → IsChoice flagged straight turned (charge_of message) k f →
+fewest_at : (k : ℕ) (old message : List Bool) (flagged straight turned : Bool) (f g : Bool) → IsTested k old message flagged straight turned
+    → IsChoice flagged straight turned (charge_of message) k f →
     IsAbove (flip_cells k old message g) old → charge_of (flip_cells k old message f) ≤ charge_of (flip_cells k old message g)
 fewest_at k old message flagged straight turned true true t c a = omega arith
 fewest_at k old message flagged straight turned false false t c a = omega arith
@@ -178,7 +183,8 @@ tie_at k old message flagged straight turned true t c a e =
     let fewer = (weighed k old message t.len).less (ltb-true _ _ (sym (c.better test c.possible))) in
     absurd (omega arith)
 
-pub choice_fewest : (k : ℕ) (old message : List Bool) (flagged straight turned : Bool) (f : Bool) → IsTested k old message flagged straight turned → IsChoice flagged straight turned (charge_of message) k f →
+pub choice_fewest : (k : ℕ) (old message : List Bool) (flagged straight turned : Bool) (f : Bool) → IsTested k old message flagged straight turned
+    → IsChoice flagged straight turned (charge_of message) k f →
     IsFewest k old message (flip_cells k old message f)
 choice_fewest k old message flagged straight turned f t c = record {
   one_of_two = sym (ap (flip_cells k old message) (flip_flag k old message f t.len));
@@ -225,7 +231,8 @@ pub record IsFlagged (k : ℕ) (f : Bool) (mid out : List ℕ) : Type 0 where
   pub flag : nat_eq (word_bit out k) 1 ≡ f
   pub others : (i : ℕ) → (i ≡ k → ⊥) → word_bit out i ≡ word_bit mid i
 
-pub flagged_cells : (f : Bool) (k n : ℕ) (old message mid out : List ℕ) → k < n → IsLaid f k n old message mid → IsFlagged k f mid out → cells_of n out ≡ flip_cells k (cells_of n old) (cells_of k message) f
+pub flagged_cells : (f : Bool) (k n : ℕ) (old message mid out : List ℕ) → k < n → IsLaid f k n old message mid → IsFlagged k f mid out
+    → cells_of n out ≡ flip_cells k (cells_of n old) (cells_of k message) f
 flagged_cells f k n old message mid out fits j g =
     let front : List Bool = turned_by f (cells_of k message) in
     let rest : List Bool = f ∷ drop (k + 1) (cells_of n old) in

@@ -43,5 +43,8 @@ pub record IsChoice (flagged straight turned : Bool) (charge count : ℕ) (flag 
 pub takes_flip : (k n : ℕ) (message : List Bool) → length message ≡ k → k < n → (cells : List Bool) × (length cells ≡ n) × (flip_message k cells ≡ message)
 takes_flip k n message len fits =
     let tail : List Bool = replicate (n - k) false in
-    let flag : cell_at (message ++ tail) k ≡ false = get_or-append_right message tail k k false len (omega arith) ∙ get_or-replicate (n - k) (k - k) false false (omega arith) in
-    (message ++ tail, omega (arith, length-append message tail, length-replicate (n - k) false), ap (λ f. turned_by f (take k (message ++ tail))) flag ∙ turned_false (take k (message ++ tail)) ∙ take_at message tail k len)
+    let flag : cell_at (message ++ tail) k ≡ false = get_or-append_right message tail k k false len (omega arith) ∙ get_or-replicate (n - k) (k - k) false false (omega arith) in (
+      message ++ tail,
+      omega (arith, length-append message tail, length-replicate (n - k) false),
+      ap (λ f. turned_by f (take k (message ++ tail))) flag ∙ turned_false (take k (message ++ tail)) ∙ take_at message tail k len,
+    )

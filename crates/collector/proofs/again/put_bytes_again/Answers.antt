@@ -5,10 +5,12 @@ use Rattle.collector.proofs.again.put_bytes_again.Goals as goal
 
 pub returns-in-Ok-put_sector-clause-ends : goal.returns-in-Ok-put_sector-clause-ends
 returns-in-Ok-put_sector-clause-ends g c = (
-  bytes_puts (g.C.Scheme.meaning c.args.scheme.now) c.args.live.now c.args.page c.get.new.into (g.D.Die.state c.args.die.now) (g.D.Die.state c.get.new.die) (g.D.Die.state c.put_sector.new.die) c.args.seq.now
+  bytes_puts (g.C.Scheme.meaning c.args.scheme.now) c.args.live.now c.args.page c.get.new.into (g.D.Die.state c.args.die.now) (g.D.Die.state c.get.new.die)
+      (g.D.Die.state c.put_sector.new.die) c.args.seq.now
       c.get.ensures.same_cells c.get.ensures.kept.shape c.requires.bytes c.put_sector.ensures.put c.in-Ok.ensures.got c.put_sector.ensures.sector,
   c.in-Ok-put_sector.ensures.gated,
-  bytes_passed (g.C.Scheme.meaning c.args.scheme.now) c.args.live.now (g.D.Die.state c.args.die.now) (g.D.Die.state c.get.new.die) (g.D.Die.state c.put_sector.new.die) c.requires.bytes c.in-Ok.ensures.passed c.in-Ok-put_sector.ensures.passed,
+  bytes_passed (g.C.Scheme.meaning c.args.scheme.now) c.args.live.now (g.D.Die.state c.args.die.now) (g.D.Die.state c.get.new.die)
+      (g.D.Die.state c.put_sector.new.die) c.requires.bytes c.in-Ok.ensures.passed c.in-Ok-put_sector.ensures.passed,
   c.put_sector.ensures.seq,
 )
 
@@ -17,9 +19,11 @@ returns-in-Ok-put_sector-clause-kept g c = kept_trans c.get.ensures.kept c.put_s
 
 pub returns-in-Err-clause-ends : goal.returns-in-Err-clause-ends
 returns-in-Err-clause-ends g c = (
-  bytes_puts (g.C.Scheme.meaning c.args.scheme.now) c.args.live.now c.args.page c.get.new.into (g.D.Die.state c.args.die.now) (g.D.Die.state c.get.new.die) (g.D.Die.state c.put_sector.new.die) c.args.seq.now
+  bytes_puts (g.C.Scheme.meaning c.args.scheme.now) c.args.live.now c.args.page c.get.new.into (g.D.Die.state c.args.die.now) (g.D.Die.state c.get.new.die)
+      (g.D.Die.state c.put_sector.new.die) c.args.seq.now
       c.get.ensures.same_cells c.get.ensures.kept.shape c.requires.bytes c.put_sector.ensures.put c.in-Ok.ensures.got c.put_sector.ensures.sector,
-  bytes_failed (g.C.Scheme.meaning c.args.scheme.now) c.args.live.now (g.D.Die.state c.args.die.now) (g.D.Die.state c.get.new.die) (g.D.Die.state c.put_sector.new.die) c.requires.bytes c.in-Ok.ensures.passed c.in-Err.ensures.failed,
+  bytes_failed (g.C.Scheme.meaning c.args.scheme.now) c.args.live.now (g.D.Die.state c.args.die.now) (g.D.Die.state c.get.new.die)
+      (g.D.Die.state c.put_sector.new.die) c.requires.bytes c.in-Ok.ensures.passed c.in-Err.ensures.failed,
   c.put_sector.ensures.seq,
 )
 

@@ -18,11 +18,13 @@ returns-in-Ok-clause-ends g c =
     let old = g.D.Die.state c.args.die.now in
     let mid = g.D.Die.state c.get.new.die in
     let fine : is_err c.get.result ≡ false = sym c.is_err.ensures.value ∙ c.if-is_err.false in (
-      bytes_put meaning c.args.spare c.args.page c.args.place c.args.header.now c.get.new.into old mid (g.D.Die.state c.put_bytes.new.die) c.args.book.now c.put_bytes.new.book c.args.seq.now c.put_bytes.new.seq
+      bytes_put meaning c.args.spare c.args.page c.args.place c.args.header.now c.get.new.into old mid
+          (g.D.Die.state c.put_bytes.new.die) c.args.book.now c.put_bytes.new.book c.args.seq.now c.put_bytes.new.seq
           c.get.ensures.same_cells c.get.ensures.kept.shape c.requires.bytes (when_ok (c.get.new.into ≡ decoded_at meaning old c.args.place) c.get.result fine c.get.ensures.got)
           c.put_bytes.ensures.sector c.put_bytes.ensures.puts,
       c.in-Ok.ensures.gated,
-      passed_after_get meaning c.args.place c.args.header.now old mid (g.D.Die.state c.put_bytes.new.die) c.requires.bytes (when_ok (Passed 0 (reads_of meaning c.args.place) old mid) c.get.result fine c.get.ensures.passed) c.in-Ok.ensures.passed,
+      passed_after_get meaning c.args.place c.args.header.now old mid (g.D.Die.state c.put_bytes.new.die) c.requires.bytes
+          (when_ok (Passed 0 (reads_of meaning c.args.place) old mid) c.get.result fine c.get.ensures.passed) c.in-Ok.ensures.passed,
     )
 
 pub returns-in-Err-clause-ends : goal.returns-in-Err-clause-ends
@@ -31,8 +33,10 @@ returns-in-Err-clause-ends g c =
     let old = g.D.Die.state c.args.die.now in
     let mid = g.D.Die.state c.get.new.die in
     let fine : is_err c.get.result ≡ false = sym c.is_err.ensures.value ∙ c.if-is_err.false in (
-      bytes_put meaning c.args.spare c.args.page c.args.place c.args.header.now c.get.new.into old mid (g.D.Die.state c.put_bytes.new.die) c.args.book.now c.put_bytes.new.book c.args.seq.now c.put_bytes.new.seq
+      bytes_put meaning c.args.spare c.args.page c.args.place c.args.header.now c.get.new.into old mid
+          (g.D.Die.state c.put_bytes.new.die) c.args.book.now c.put_bytes.new.book c.args.seq.now c.put_bytes.new.seq
           c.get.ensures.same_cells c.get.ensures.kept.shape c.requires.bytes (when_ok (c.get.new.into ≡ decoded_at meaning old c.args.place) c.get.result fine c.get.ensures.got)
           c.put_bytes.ensures.sector c.put_bytes.ensures.puts,
-      failed_after_get meaning c.args.place c.args.header.now old mid (g.D.Die.state c.put_bytes.new.die) c.requires.bytes (when_ok (Passed 0 (reads_of meaning c.args.place) old mid) c.get.result fine c.get.ensures.passed) c.in-Err.ensures.failed,
+      failed_after_get meaning c.args.place c.args.header.now old mid (g.D.Die.state c.put_bytes.new.die) c.requires.bytes
+          (when_ok (Passed 0 (reads_of meaning c.args.place) old mid) c.get.result fine c.get.ensures.passed) c.in-Err.ensures.failed,
     )

@@ -7,51 +7,91 @@ use Rattle.page_codec.specs.Geometry.{Geometry}
 use Rattle.collector.specs.Store.{geometry_of, store, Holds}
 use Rattle.collector.specs.Again.{MovedRecord, MoveFails}
 use Rattle.collector.proofs.Fresh.{holds_after}
-use Rattle.collector.proofs.Chosen.{from_none, none_left, closed_within, block_pages, has_named, first_live, moved_one, change_failed_one, read_failed_one, some_pages, one_left, search_failed_one, failed_at, failed_any, on_err, named_sooner, same_geometry, first_at, named_at, passed_at, live_after_reads}
+use Rattle.collector.proofs.Chosen.{from_none, none_left, closed_within, block_pages, has_named, first_live, moved_one, change_failed_one, read_failed_one, some_pages, one_left}
+use Rattle.collector.proofs.Chosen.{search_failed_one, failed_at, failed_any, on_err, named_sooner, same_geometry, first_at, named_at, passed_at, live_after_reads}
 use Rattle.collector.proofs.idle.move_one.Goals as goal
 
 pub returns-in_default-idle_victim-clause-none : goal.returns-in_default-idle_victim-clause-none
 returns-in_default-idle_victim-clause-none g c =
-    λ _. none_left c.args.book.now c.in-Some.next.page c.in-Some.next.room c.requires.tables.kept c.in-Some.ensures.some (from_none c.idle_victim.result c.in_default-idle_victim.not-Some c.idle_victim.ensures.none)
+    λ _. none_left c.args.book.now c.in-Some.next.page c.in-Some.next.room c.requires.tables.kept c.in-Some.ensures.some
+    (from_none c.idle_victim.result c.in_default-idle_victim.not-Some c.idle_victim.ensures.none)
 
 pub find_first-requires-clause-pages : goal.find_first-requires-clause-pages
 find_first-requires-clause-pages g c =
     let within = closed_within c.args.book.now c.in-Some-idle_victim.victim c.in-Some-idle_victim.ensures.found.0.closed in
-    subst (λ (n : ℕ). c.in-Some-idle_victim.victim * n + n ≤ (g.D.Die.state c.args.die.now).shape.blocks * (g.D.Die.state c.args.die.now).shape.pages) (sym (c.pages-pages.ensures.value ∙ c.requires.tables.sizes.pages))
-    (block_pages (geometry_of (g.D.Die.state c.args.die.now).shape (g.C.Scheme.meaning c.args.scheme.now) (length c.args.map.now)) c.in-Some-idle_victim.victim (omega (arith, c.requires.tables.sizes.blocks, within)))
+    subst (λ (n : ℕ). c.in-Some-idle_victim.victim * n + n ≤ (g.D.Die.state c.args.die.now).shape.blocks * (g.D.Die.state c.args.die.now).shape.pages)
+    (sym (c.pages-pages.ensures.value ∙ c.requires.tables.sizes.pages))
+    (block_pages (geometry_of (g.D.Die.state c.args.die.now).shape (g.C.Scheme.meaning c.args.scheme.now) (length c.args.map.now)) c.in-Some-idle_victim.victim
+    (omega (arith, c.requires.tables.sizes.blocks, within)))
 
 pub find_first-requires-clause-some : goal.find_first-requires-clause-some
 find_first-requires-clause-some g c =
-    named_at c.args.map.now c.args.work.now (g.D.Die.state c.args.die.now) c.in-Some-idle_victim.victim (g.D.Die.state c.args.die.now).shape.pages c.pages-pages.result (sym (c.pages-pages.ensures.value ∙ c.requires.tables.sizes.pages))
-    (has_named (geometry_of (g.D.Die.state c.args.die.now).shape (g.C.Scheme.meaning c.args.scheme.now) (length c.args.map.now)) c.args.work.now (g.D.Die.state c.args.die.now) c.args.book.now c.args.map.now c.args.seq.now c.requires.tables refl (sym c.requires.die.main_bytes) (sym c.requires.scheme.generations)
-    (subst (λ (n : ℕ). 0 < n) c.requires.tables.sizes.pages (some_pages c.args.book.now c.in-Some.next.page c.in-Some.next.room c.requires.tables.kept c.in-Some.ensures.some)) c.in-Some.next.room c.in-Some-idle_victim.victim c.in-Some-idle_victim.ensures.found)
+    named_at c.args.map.now c.args.work.now (g.D.Die.state c.args.die.now) c.in-Some-idle_victim.victim (g.D.Die.state c.args.die.now).shape.pages c.pages-pages.result
+    (sym (c.pages-pages.ensures.value ∙ c.requires.tables.sizes.pages))
+    (has_named (geometry_of (g.D.Die.state c.args.die.now).shape (g.C.Scheme.meaning c.args.scheme.now) (length c.args.map.now)) c.args.work.now
+    (g.D.Die.state c.args.die.now) c.args.book.now c.args.map.now c.args.seq.now c.requires.tables refl (sym c.requires.die.main_bytes) (sym c.requires.scheme.generations)
+    (subst (λ (n : ℕ). 0 < n) c.requires.tables.sizes.pages
+    (some_pages c.args.book.now c.in-Some.next.page c.in-Some.next.room c.requires.tables.kept c.in-Some.ensures.some)) c.in-Some.next.room c.in-Some-idle_victim.victim
+    c.in-Some-idle_victim.ensures.found)
 
 pub move_record-requires-clause-live : goal.move_record-requires-clause-live
 move_record-requires-clause-live g c =
-    let first = first_live (geometry_of (g.D.Die.state c.args.die.now).shape (g.C.Scheme.meaning c.args.scheme.now) (length c.args.map.now)) c.args.work.now (g.D.Die.state c.args.die.now) c.args.book.now c.args.map.now c.args.seq.now c.requires.tables refl (sym c.requires.die.main_bytes) (sym c.requires.scheme.generations)
-    (subst (λ (n : ℕ). 0 < n) c.requires.tables.sizes.pages (some_pages c.args.book.now c.in-Some.next.page c.in-Some.next.room c.requires.tables.kept c.in-Some.ensures.some)) c.in-Some-idle_victim.victim c.in-Ok.live
-    (first_at c.args.map.now c.args.work.now (g.D.Die.state c.args.die.now) c.in-Some-idle_victim.victim c.pages-pages.result (g.D.Die.state c.args.die.now).shape.pages c.in-Ok.live (c.pages-pages.ensures.value ∙ c.requires.tables.sizes.pages) c.in-Ok.ensures.found) in
-    live_after_reads (geometry_of (g.D.Die.state c.args.die.now).shape (g.C.Scheme.meaning c.args.scheme.now) (length c.args.map.now)) _ (g.D.Die.state c.args.die.now) (g.D.Die.state c.find_first.new.die) c.in-Ok.live (same_geometry (g.D.Die.state c.args.die.now).shape (g.D.Die.state c.find_first.new.die).shape (g.C.Scheme.meaning c.args.scheme.now) (length c.args.map.now) c.find_first.ensures.kept.shape) c.find_first.ensures.same_cells (record { sector = first.sector; is = first.live })
+    let first =
+    first_live (geometry_of (g.D.Die.state c.args.die.now).shape (g.C.Scheme.meaning c.args.scheme.now) (length c.args.map.now)) c.args.work.now
+    (g.D.Die.state c.args.die.now) c.args.book.now c.args.map.now c.args.seq.now c.requires.tables refl (sym c.requires.die.main_bytes) (sym c.requires.scheme.generations)
+    (subst (λ (n : ℕ). 0 < n) c.requires.tables.sizes.pages
+    (some_pages c.args.book.now c.in-Some.next.page c.in-Some.next.room c.requires.tables.kept c.in-Some.ensures.some)) c.in-Some-idle_victim.victim c.in-Ok.live
+    (first_at c.args.map.now c.args.work.now (g.D.Die.state c.args.die.now) c.in-Some-idle_victim.victim c.pages-pages.result (g.D.Die.state c.args.die.now).shape.pages c.in-Ok.live
+    (c.pages-pages.ensures.value ∙ c.requires.tables.sizes.pages) c.in-Ok.ensures.found) in
+    live_after_reads (geometry_of (g.D.Die.state c.args.die.now).shape (g.C.Scheme.meaning c.args.scheme.now) (length c.args.map.now)) _ (g.D.Die.state c.args.die.now)
+    (g.D.Die.state c.find_first.new.die) c.in-Ok.live
+    (same_geometry (g.D.Die.state c.args.die.now).shape (g.D.Die.state c.find_first.new.die).shape (g.C.Scheme.meaning c.args.scheme.now)
+    (length c.args.map.now) c.find_first.ensures.kept.shape) c.find_first.ensures.same_cells (record { sector = first.sector; is = first.live })
 
 pub returns-in_err-move_record-clause-holds : goal.returns-in_err-move_record-clause-holds
 returns-in_err-move_record-clause-holds g c =
-    holds_after (geometry_of (g.D.Die.state c.args.die.now).shape (g.C.Scheme.meaning c.args.scheme.now) (length c.args.map.now)) (store (g.D.Die.state c.args.die.now) c.args.map.now c.args.book.now c.args.seq.now) (store (g.D.Die.state c.move_record.new.die) c.move_record.new.map c.move_record.new.book c.move_record.new.seq) (g.D.Die.state c.find_first.new.die) c.find_first.ensures.kept c.find_first.ensures.same_cells c.in-Ok.ensures.passed.change_faults
-    (subst (λ (h : Geometry). Holds h (store (g.D.Die.state c.find_first.new.die) c.args.map.now c.args.book.now c.args.seq.now) (store (g.D.Die.state c.move_record.new.die) c.move_record.new.map c.move_record.new.book c.move_record.new.seq)) (same_geometry (g.D.Die.state c.args.die.now).shape (g.D.Die.state c.find_first.new.die).shape (g.C.Scheme.meaning c.args.scheme.now) (length c.args.map.now) c.find_first.ensures.kept.shape) c.move_record.ensures.holds)
+    holds_after (geometry_of (g.D.Die.state c.args.die.now).shape (g.C.Scheme.meaning c.args.scheme.now) (length c.args.map.now))
+    (store (g.D.Die.state c.args.die.now) c.args.map.now c.args.book.now c.args.seq.now)
+    (store (g.D.Die.state c.move_record.new.die) c.move_record.new.map c.move_record.new.book c.move_record.new.seq)
+    (g.D.Die.state c.find_first.new.die) c.find_first.ensures.kept c.find_first.ensures.same_cells c.in-Ok.ensures.passed.change_faults
+    (subst (λ (h : Geometry). Holds h (store (g.D.Die.state c.find_first.new.die) c.args.map.now c.args.book.now c.args.seq.now)
+    (store (g.D.Die.state c.move_record.new.die) c.move_record.new.map c.move_record.new.book c.move_record.new.seq))
+    (same_geometry (g.D.Die.state c.args.die.now).shape (g.D.Die.state c.find_first.new.die).shape (g.C.Scheme.meaning c.args.scheme.now)
+    (length c.args.map.now) c.find_first.ensures.kept.shape) c.move_record.ensures.holds)
 
 pub returns-clause-holds : goal.returns-clause-holds
 returns-clause-holds g c =
-    holds_after (geometry_of (g.D.Die.state c.args.die.now).shape (g.C.Scheme.meaning c.args.scheme.now) (length c.args.map.now)) (store (g.D.Die.state c.args.die.now) c.args.map.now c.args.book.now c.args.seq.now) (store (g.D.Die.state c.move_record.new.die) c.move_record.new.map c.move_record.new.book c.move_record.new.seq) (g.D.Die.state c.find_first.new.die) c.find_first.ensures.kept c.find_first.ensures.same_cells c.in-Ok.ensures.passed.change_faults
-    (subst (λ (h : Geometry). Holds h (store (g.D.Die.state c.find_first.new.die) c.args.map.now c.args.book.now c.args.seq.now) (store (g.D.Die.state c.move_record.new.die) c.move_record.new.map c.move_record.new.book c.move_record.new.seq)) (same_geometry (g.D.Die.state c.args.die.now).shape (g.D.Die.state c.find_first.new.die).shape (g.C.Scheme.meaning c.args.scheme.now) (length c.args.map.now) c.find_first.ensures.kept.shape) c.move_record.ensures.holds)
+    holds_after (geometry_of (g.D.Die.state c.args.die.now).shape (g.C.Scheme.meaning c.args.scheme.now) (length c.args.map.now))
+    (store (g.D.Die.state c.args.die.now) c.args.map.now c.args.book.now c.args.seq.now)
+    (store (g.D.Die.state c.move_record.new.die) c.move_record.new.map c.move_record.new.book c.move_record.new.seq)
+    (g.D.Die.state c.find_first.new.die) c.find_first.ensures.kept c.find_first.ensures.same_cells c.in-Ok.ensures.passed.change_faults
+    (subst (λ (h : Geometry). Holds h (store (g.D.Die.state c.find_first.new.die) c.args.map.now c.args.book.now c.args.seq.now)
+    (store (g.D.Die.state c.move_record.new.die) c.move_record.new.map c.move_record.new.book c.move_record.new.seq))
+    (same_geometry (g.D.Die.state c.args.die.now).shape (g.D.Die.state c.find_first.new.die).shape (g.C.Scheme.meaning c.args.scheme.now)
+    (length c.args.map.now) c.find_first.ensures.kept.shape) c.move_record.ensures.holds)
 
 pub returns-clause-moved : goal.returns-clause-moved
 returns-clause-moved g c =
-    λ _. let first = first_live (geometry_of (g.D.Die.state c.args.die.now).shape (g.C.Scheme.meaning c.args.scheme.now) (length c.args.map.now)) c.args.work.now (g.D.Die.state c.args.die.now) c.args.book.now c.args.map.now c.args.seq.now c.requires.tables refl (sym c.requires.die.main_bytes) (sym c.requires.scheme.generations)
-    (subst (λ (n : ℕ). 0 < n) c.requires.tables.sizes.pages (some_pages c.args.book.now c.in-Some.next.page c.in-Some.next.room c.requires.tables.kept c.in-Some.ensures.some)) c.in-Some-idle_victim.victim c.in-Ok.live
-    (first_at c.args.map.now c.args.work.now (g.D.Die.state c.args.die.now) c.in-Some-idle_victim.victim c.pages-pages.result (g.D.Die.state c.args.die.now).shape.pages c.in-Ok.live (c.pages-pages.ensures.value ∙ c.requires.tables.sizes.pages) c.in-Ok.ensures.found) in
-    moved_one (geometry_of (g.D.Die.state c.args.die.now).shape (g.C.Scheme.meaning c.args.scheme.now) (length c.args.map.now)) (g.C.Scheme.meaning c.args.scheme.now) (store (g.D.Die.state c.args.die.now) c.args.map.now c.args.book.now c.args.seq.now) (store (g.D.Die.state c.move_record.new.die) c.move_record.new.map c.move_record.new.book c.move_record.new.seq) (g.D.Die.state c.find_first.new.die) c.in-Some.next.page c.in-Some.next.room c.in-Some-idle_victim.victim c.in-Ok.live c.requires.tables.sizes.pages refl c.in-Some.ensures.some c.in-Some-idle_victim.ensures.found
-    c.find_first.ensures.same_cells (passed_at (g.D.Die.state c.args.die.now) (g.D.Die.state c.find_first.new.die) c.in-Ok.live.place.page c.in-Some-idle_victim.victim c.pages-pages.result (g.D.Die.state c.args.die.now).shape.pages (c.pages-pages.ensures.value ∙ c.requires.tables.sizes.pages) c.in-Ok.ensures.passed)
+    λ _. let first =
+    first_live (geometry_of (g.D.Die.state c.args.die.now).shape (g.C.Scheme.meaning c.args.scheme.now) (length c.args.map.now)) c.args.work.now
+    (g.D.Die.state c.args.die.now) c.args.book.now c.args.map.now c.args.seq.now c.requires.tables refl (sym c.requires.die.main_bytes) (sym c.requires.scheme.generations)
+    (subst (λ (n : ℕ). 0 < n) c.requires.tables.sizes.pages
+    (some_pages c.args.book.now c.in-Some.next.page c.in-Some.next.room c.requires.tables.kept c.in-Some.ensures.some)) c.in-Some-idle_victim.victim c.in-Ok.live
+    (first_at c.args.map.now c.args.work.now (g.D.Die.state c.args.die.now) c.in-Some-idle_victim.victim c.pages-pages.result (g.D.Die.state c.args.die.now).shape.pages c.in-Ok.live
+    (c.pages-pages.ensures.value ∙ c.requires.tables.sizes.pages) c.in-Ok.ensures.found) in
+    moved_one (geometry_of (g.D.Die.state c.args.die.now).shape (g.C.Scheme.meaning c.args.scheme.now) (length c.args.map.now)) (g.C.Scheme.meaning c.args.scheme.now)
+    (store (g.D.Die.state c.args.die.now) c.args.map.now c.args.book.now c.args.seq.now)
+    (store (g.D.Die.state c.move_record.new.die) c.move_record.new.map c.move_record.new.book c.move_record.new.seq)
+    (g.D.Die.state c.find_first.new.die) c.in-Some.next.page c.in-Some.next.room c.in-Some-idle_victim.victim c.in-Ok.live c.requires.tables.sizes.pages refl c.in-Some.ensures.some
+    c.in-Some-idle_victim.ensures.found
+    c.find_first.ensures.same_cells (passed_at (g.D.Die.state c.args.die.now) (g.D.Die.state c.find_first.new.die) c.in-Ok.live.place.page c.in-Some-idle_victim.victim c.pages-pages.result
+    (g.D.Die.state c.args.die.now).shape.pages (c.pages-pages.ensures.value ∙ c.requires.tables.sizes.pages) c.in-Ok.ensures.passed)
     first
-    (subst (λ (h : Geometry). MovedRecord h (g.C.Scheme.meaning c.args.scheme.now).decoding c.in-Ok.live c.in-Some.next.page (store (g.D.Die.state c.find_first.new.die) c.args.map.now c.args.book.now c.args.seq.now) (store (g.D.Die.state c.move_record.new.die) c.move_record.new.map c.move_record.new.book c.move_record.new.seq)) (same_geometry (g.D.Die.state c.args.die.now).shape (g.D.Die.state c.find_first.new.die).shape (g.C.Scheme.meaning c.args.scheme.now) (length c.args.map.now) c.find_first.ensures.kept.shape) c.in_ok-move_record.ensures.ends.0)
+    (subst (λ (h : Geometry). MovedRecord h (g.C.Scheme.meaning c.args.scheme.now).decoding c.in-Ok.live c.in-Some.next.page
+    (store (g.D.Die.state c.find_first.new.die) c.args.map.now c.args.book.now c.args.seq.now)
+    (store (g.D.Die.state c.move_record.new.die) c.move_record.new.map c.move_record.new.book c.move_record.new.seq))
+    (same_geometry (g.D.Die.state c.args.die.now).shape (g.D.Die.state c.find_first.new.die).shape (g.C.Scheme.meaning c.args.scheme.now)
+    (length c.args.map.now) c.find_first.ensures.kept.shape) c.in_ok-move_record.ensures.ends.0)
     c.move_record.ensures.same_erases c.in_ok-move_record.ensures.ends.1
 
 pub returns-in_err-move_record-clause-change_failed : goal.returns-in_err-move_record-clause-change_failed
@@ -59,13 +99,26 @@ returns-in_err-move_record-clause-change_failed g c =
     λ is.
     let q = err_from_is_err_and c.from_residual.result c.from_residual.ensures.1 in
     let fault : c.in_err-move_record.field-0.0 ≡ Change = cc in
-    let first = first_live (geometry_of (g.D.Die.state c.args.die.now).shape (g.C.Scheme.meaning c.args.scheme.now) (length c.args.map.now)) c.args.work.now (g.D.Die.state c.args.die.now) c.args.book.now c.args.map.now c.args.seq.now c.requires.tables refl (sym c.requires.die.main_bytes) (sym c.requires.scheme.generations)
-    (subst (λ (n : ℕ). 0 < n) c.requires.tables.sizes.pages (some_pages c.args.book.now c.in-Some.next.page c.in-Some.next.room c.requires.tables.kept c.in-Some.ensures.some)) c.in-Some-idle_victim.victim c.in-Ok.live
-    (first_at c.args.map.now c.args.work.now (g.D.Die.state c.args.die.now) c.in-Some-idle_victim.victim c.pages-pages.result (g.D.Die.state c.args.die.now).shape.pages c.in-Ok.live (c.pages-pages.ensures.value ∙ c.requires.tables.sizes.pages) c.in-Ok.ensures.found) in
-    change_failed_one (geometry_of (g.D.Die.state c.args.die.now).shape (g.C.Scheme.meaning c.args.scheme.now) (length c.args.map.now)) (g.C.Scheme.meaning c.args.scheme.now) (store (g.D.Die.state c.args.die.now) c.args.map.now c.args.book.now c.args.seq.now) (store (g.D.Die.state c.move_record.new.die) c.move_record.new.map c.move_record.new.book c.move_record.new.seq) (g.D.Die.state c.find_first.new.die) c.in-Some.next.page c.in-Some.next.room c.in-Some-idle_victim.victim c.in-Ok.live refl c.in-Some.ensures.some c.in-Some-idle_victim.ensures.found c.find_first.ensures.same_cells (passed_at (g.D.Die.state c.args.die.now) (g.D.Die.state c.find_first.new.die) c.in-Ok.live.place.page c.in-Some-idle_victim.victim c.pages-pages.result (g.D.Die.state c.args.die.now).shape.pages (c.pages-pages.ensures.value ∙ c.requires.tables.sizes.pages) c.in-Ok.ensures.passed)
+    let first =
+    first_live (geometry_of (g.D.Die.state c.args.die.now).shape (g.C.Scheme.meaning c.args.scheme.now) (length c.args.map.now)) c.args.work.now
+    (g.D.Die.state c.args.die.now) c.args.book.now c.args.map.now c.args.seq.now c.requires.tables refl (sym c.requires.die.main_bytes) (sym c.requires.scheme.generations)
+    (subst (λ (n : ℕ). 0 < n) c.requires.tables.sizes.pages
+    (some_pages c.args.book.now c.in-Some.next.page c.in-Some.next.room c.requires.tables.kept c.in-Some.ensures.some)) c.in-Some-idle_victim.victim c.in-Ok.live
+    (first_at c.args.map.now c.args.work.now (g.D.Die.state c.args.die.now) c.in-Some-idle_victim.victim c.pages-pages.result (g.D.Die.state c.args.die.now).shape.pages c.in-Ok.live
+    (c.pages-pages.ensures.value ∙ c.requires.tables.sizes.pages) c.in-Ok.ensures.found) in
+    change_failed_one (geometry_of (g.D.Die.state c.args.die.now).shape (g.C.Scheme.meaning c.args.scheme.now) (length c.args.map.now)) (g.C.Scheme.meaning c.args.scheme.now)
+    (store (g.D.Die.state c.args.die.now) c.args.map.now c.args.book.now c.args.seq.now)
+    (store (g.D.Die.state c.move_record.new.die) c.move_record.new.map c.move_record.new.book c.move_record.new.seq)
+    (g.D.Die.state c.find_first.new.die) c.in-Some.next.page c.in-Some.next.room c.in-Some-idle_victim.victim c.in-Ok.live refl c.in-Some.ensures.some c.in-Some-idle_victim.ensures.found
+    c.find_first.ensures.same_cells (passed_at (g.D.Die.state c.args.die.now) (g.D.Die.state c.find_first.new.die) c.in-Ok.live.place.page c.in-Some-idle_victim.victim c.pages-pages.result
+    (g.D.Die.state c.args.die.now).shape.pages (c.pages-pages.ensures.value ∙ c.requires.tables.sizes.pages) c.in-Ok.ensures.passed)
     first
-    (subst (λ (h : Geometry). MoveFails h (g.C.Scheme.meaning c.args.scheme.now) c.in-Ok.live Change (store (g.D.Die.state c.find_first.new.die) c.args.map.now c.args.book.now c.args.seq.now) (store (g.D.Die.state c.move_record.new.die) c.move_record.new.map c.move_record.new.book c.move_record.new.seq)) (same_geometry (g.D.Die.state c.args.die.now).shape (g.D.Die.state c.find_first.new.die).shape (g.C.Scheme.meaning c.args.scheme.now) (length c.args.map.now) c.find_first.ensures.kept.shape)
-    (subst (λ (f : PutFault). MoveFails (geometry_of (g.D.Die.state c.find_first.new.die).shape (g.C.Scheme.meaning c.args.scheme.now) (length c.args.map.now)) (g.C.Scheme.meaning c.args.scheme.now) c.in-Ok.live f (store (g.D.Die.state c.find_first.new.die) c.args.map.now c.args.book.now c.args.seq.now) (store (g.D.Die.state c.move_record.new.die) c.move_record.new.map c.move_record.new.book c.move_record.new.seq)) fault c.in_err-move_record.ensures.ends)) c.move_record.ensures.same_erases
+    (subst (λ (h : Geometry). MoveFails h (g.C.Scheme.meaning c.args.scheme.now) c.in-Ok.live Change (store (g.D.Die.state c.find_first.new.die) c.args.map.now c.args.book.now c.args.seq.now)
+    (store (g.D.Die.state c.move_record.new.die) c.move_record.new.map c.move_record.new.book c.move_record.new.seq))
+    (same_geometry (g.D.Die.state c.args.die.now).shape (g.D.Die.state c.find_first.new.die).shape (g.C.Scheme.meaning c.args.scheme.now) (length c.args.map.now) c.find_first.ensures.kept.shape)
+    (subst (λ (f : PutFault). MoveFails (geometry_of (g.D.Die.state c.find_first.new.die).shape (g.C.Scheme.meaning c.args.scheme.now) (length c.args.map.now))
+    (g.C.Scheme.meaning c.args.scheme.now) c.in-Ok.live f (store (g.D.Die.state c.find_first.new.die) c.args.map.now c.args.book.now c.args.seq.now)
+    (store (g.D.Die.state c.move_record.new.die) c.move_record.new.map c.move_record.new.book c.move_record.new.seq)) fault c.in_err-move_record.ensures.ends)) c.move_record.ensures.same_erases
 
 pub returns-in_default-find_first-clause-none_alone : goal.returns-in_default-find_first-clause-none_alone
 returns-in_default-find_first-clause-none_alone g c none =
@@ -84,23 +137,42 @@ returns-in_err-move_record-clause-read_failed g c =
     λ is.
     let q = err_from_is_err_and c.from_residual.result c.from_residual.ensures.1 in
     let fault : c.in_err-move_record.field-0.0 ≡ Read = cc in
-    let first = first_live (geometry_of (g.D.Die.state c.args.die.now).shape (g.C.Scheme.meaning c.args.scheme.now) (length c.args.map.now)) c.args.work.now (g.D.Die.state c.args.die.now) c.args.book.now c.args.map.now c.args.seq.now c.requires.tables refl (sym c.requires.die.main_bytes) (sym c.requires.scheme.generations)
-    (subst (λ (n : ℕ). 0 < n) c.requires.tables.sizes.pages (some_pages c.args.book.now c.in-Some.next.page c.in-Some.next.room c.requires.tables.kept c.in-Some.ensures.some)) c.in-Some-idle_victim.victim c.in-Ok.live
-    (first_at c.args.map.now c.args.work.now (g.D.Die.state c.args.die.now) c.in-Some-idle_victim.victim c.pages-pages.result (g.D.Die.state c.args.die.now).shape.pages c.in-Ok.live (c.pages-pages.ensures.value ∙ c.requires.tables.sizes.pages) c.in-Ok.ensures.found) in
-    read_failed_one (geometry_of (g.D.Die.state c.args.die.now).shape (g.C.Scheme.meaning c.args.scheme.now) (length c.args.map.now)) (g.C.Scheme.meaning c.args.scheme.now) (store (g.D.Die.state c.args.die.now) c.args.map.now c.args.book.now c.args.seq.now) (store (g.D.Die.state c.move_record.new.die) c.move_record.new.map c.move_record.new.book c.move_record.new.seq) (g.D.Die.state c.find_first.new.die) c.in-Some.next.page c.in-Some.next.room c.in-Some-idle_victim.victim c.in-Ok.live refl c.in-Some.ensures.some c.in-Some-idle_victim.ensures.found c.find_first.ensures.same_cells (passed_at (g.D.Die.state c.args.die.now) (g.D.Die.state c.find_first.new.die) c.in-Ok.live.place.page c.in-Some-idle_victim.victim c.pages-pages.result (g.D.Die.state c.args.die.now).shape.pages (c.pages-pages.ensures.value ∙ c.requires.tables.sizes.pages) c.in-Ok.ensures.passed)
-    (first_at c.args.map.now c.args.work.now (g.D.Die.state c.args.die.now) c.in-Some-idle_victim.victim c.pages-pages.result (g.D.Die.state c.args.die.now).shape.pages c.in-Ok.live (c.pages-pages.ensures.value ∙ c.requires.tables.sizes.pages) c.in-Ok.ensures.found).high first
-    (subst (λ (h : Geometry). MoveFails h (g.C.Scheme.meaning c.args.scheme.now) c.in-Ok.live Read (store (g.D.Die.state c.find_first.new.die) c.args.map.now c.args.book.now c.args.seq.now) (store (g.D.Die.state c.move_record.new.die) c.move_record.new.map c.move_record.new.book c.move_record.new.seq)) (same_geometry (g.D.Die.state c.args.die.now).shape (g.D.Die.state c.find_first.new.die).shape (g.C.Scheme.meaning c.args.scheme.now) (length c.args.map.now) c.find_first.ensures.kept.shape)
-    (subst (λ (f : PutFault). MoveFails (geometry_of (g.D.Die.state c.find_first.new.die).shape (g.C.Scheme.meaning c.args.scheme.now) (length c.args.map.now)) (g.C.Scheme.meaning c.args.scheme.now) c.in-Ok.live f (store (g.D.Die.state c.find_first.new.die) c.args.map.now c.args.book.now c.args.seq.now) (store (g.D.Die.state c.move_record.new.die) c.move_record.new.map c.move_record.new.book c.move_record.new.seq)) fault c.in_err-move_record.ensures.ends))
+    let first =
+    first_live (geometry_of (g.D.Die.state c.args.die.now).shape (g.C.Scheme.meaning c.args.scheme.now) (length c.args.map.now)) c.args.work.now
+    (g.D.Die.state c.args.die.now) c.args.book.now c.args.map.now c.args.seq.now c.requires.tables refl (sym c.requires.die.main_bytes) (sym c.requires.scheme.generations)
+    (subst (λ (n : ℕ). 0 < n) c.requires.tables.sizes.pages
+    (some_pages c.args.book.now c.in-Some.next.page c.in-Some.next.room c.requires.tables.kept c.in-Some.ensures.some)) c.in-Some-idle_victim.victim c.in-Ok.live
+    (first_at c.args.map.now c.args.work.now (g.D.Die.state c.args.die.now) c.in-Some-idle_victim.victim c.pages-pages.result (g.D.Die.state c.args.die.now).shape.pages c.in-Ok.live
+    (c.pages-pages.ensures.value ∙ c.requires.tables.sizes.pages) c.in-Ok.ensures.found) in
+    read_failed_one (geometry_of (g.D.Die.state c.args.die.now).shape (g.C.Scheme.meaning c.args.scheme.now) (length c.args.map.now)) (g.C.Scheme.meaning c.args.scheme.now)
+    (store (g.D.Die.state c.args.die.now) c.args.map.now c.args.book.now c.args.seq.now)
+    (store (g.D.Die.state c.move_record.new.die) c.move_record.new.map c.move_record.new.book c.move_record.new.seq)
+    (g.D.Die.state c.find_first.new.die) c.in-Some.next.page c.in-Some.next.room c.in-Some-idle_victim.victim c.in-Ok.live refl c.in-Some.ensures.some c.in-Some-idle_victim.ensures.found
+    c.find_first.ensures.same_cells (passed_at (g.D.Die.state c.args.die.now) (g.D.Die.state c.find_first.new.die) c.in-Ok.live.place.page c.in-Some-idle_victim.victim c.pages-pages.result
+    (g.D.Die.state c.args.die.now).shape.pages (c.pages-pages.ensures.value ∙ c.requires.tables.sizes.pages) c.in-Ok.ensures.passed)
+    (first_at c.args.map.now c.args.work.now (g.D.Die.state c.args.die.now) c.in-Some-idle_victim.victim c.pages-pages.result (g.D.Die.state c.args.die.now).shape.pages c.in-Ok.live
+    (c.pages-pages.ensures.value ∙ c.requires.tables.sizes.pages) c.in-Ok.ensures.found).high first
+    (subst (λ (h : Geometry). MoveFails h (g.C.Scheme.meaning c.args.scheme.now) c.in-Ok.live Read (store (g.D.Die.state c.find_first.new.die) c.args.map.now c.args.book.now c.args.seq.now)
+    (store (g.D.Die.state c.move_record.new.die) c.move_record.new.map c.move_record.new.book c.move_record.new.seq))
+    (same_geometry (g.D.Die.state c.args.die.now).shape (g.D.Die.state c.find_first.new.die).shape (g.C.Scheme.meaning c.args.scheme.now) (length c.args.map.now) c.find_first.ensures.kept.shape)
+    (subst (λ (f : PutFault). MoveFails (geometry_of (g.D.Die.state c.find_first.new.die).shape (g.C.Scheme.meaning c.args.scheme.now) (length c.args.map.now))
+    (g.C.Scheme.meaning c.args.scheme.now) c.in-Ok.live f (store (g.D.Die.state c.find_first.new.die) c.args.map.now c.args.book.now c.args.seq.now)
+    (store (g.D.Die.state c.move_record.new.die) c.move_record.new.map c.move_record.new.book c.move_record.new.seq)) fault c.in_err-move_record.ensures.ends))
 
 pub returns-in_default-find_first-clause-read_failed : goal.returns-in_default-find_first-clause-read_failed
 returns-in_default-find_first-clause-read_failed g c =
-    λ _. let failed = failed_at c.args.map.now c.args.work.now (g.D.Die.state c.args.die.now) (g.D.Die.state c.find_first.new.die) c.in-Some-idle_victim.victim c.pages-pages.result (g.D.Die.state c.args.die.now).shape.pages
+    λ _. let failed =
+    failed_at c.args.map.now c.args.work.now (g.D.Die.state c.args.die.now) (g.D.Die.state c.find_first.new.die) c.in-Some-idle_victim.victim c.pages-pages.result
+    (g.D.Die.state c.args.die.now).shape.pages
     (c.pages-pages.ensures.value ∙ c.requires.tables.sizes.pages) (on_err c.find_first.result c.in_default-find_first.not-Ok c.find_first.ensures.failed) in
     let some = subst (λ (n : ℕ). 0 < n) c.requires.tables.sizes.pages (some_pages c.args.book.now c.in-Some.next.page c.in-Some.next.room c.requires.tables.kept c.in-Some.ensures.some) in
-    search_failed_one (geometry_of (g.D.Die.state c.args.die.now).shape (g.C.Scheme.meaning c.args.scheme.now) (length c.args.map.now)) (store (g.D.Die.state c.args.die.now) c.args.map.now c.args.book.now c.args.seq.now) (g.D.Die.state c.find_first.new.die) c.in-Some.next.page c.in-Some.next.room c.in-Some-idle_victim.victim
+    search_failed_one (geometry_of (g.D.Die.state c.args.die.now).shape (g.C.Scheme.meaning c.args.scheme.now) (length c.args.map.now))
+    (store (g.D.Die.state c.args.die.now) c.args.map.now c.args.book.now c.args.seq.now) (g.D.Die.state c.find_first.new.die) c.in-Some.next.page c.in-Some.next.room c.in-Some-idle_victim.victim
     c.in-Some.ensures.some c.in-Some-idle_victim.ensures.found c.find_first.ensures.same_cells
     (failed_any c.args.map.now c.args.work.now (g.D.Die.state c.args.die.now) (g.D.Die.state c.find_first.new.die) c.in-Some-idle_victim.victim (g.D.Die.state c.args.die.now).shape.pages failed
-    (has_named (geometry_of (g.D.Die.state c.args.die.now).shape (g.C.Scheme.meaning c.args.scheme.now) (length c.args.map.now)) c.args.work.now (g.D.Die.state c.args.die.now) c.args.book.now c.args.map.now c.args.seq.now c.requires.tables refl (sym c.requires.die.main_bytes) (sym c.requires.scheme.generations) some
+    (has_named (geometry_of (g.D.Die.state c.args.die.now).shape (g.C.Scheme.meaning c.args.scheme.now) (length c.args.map.now)) c.args.work.now
+    (g.D.Die.state c.args.die.now) c.args.book.now c.args.map.now c.args.seq.now c.requires.tables refl (sym c.requires.die.main_bytes) (sym c.requires.scheme.generations) some
     c.in-Some.next.room c.in-Some-idle_victim.victim c.in-Some-idle_victim.ensures.found))
-    (λ first is_first. named_sooner (geometry_of (g.D.Die.state c.args.die.now).shape (g.C.Scheme.meaning c.args.scheme.now) (length c.args.map.now)) c.args.work.now (g.D.Die.state c.args.die.now) c.args.book.now c.args.map.now c.args.seq.now c.requires.tables refl (sym c.requires.die.main_bytes) (sym c.requires.scheme.generations) some
+    (λ first is_first. named_sooner (geometry_of (g.D.Die.state c.args.die.now).shape (g.C.Scheme.meaning c.args.scheme.now) (length c.args.map.now)) c.args.work.now
+    (g.D.Die.state c.args.die.now) c.args.book.now c.args.map.now c.args.seq.now c.requires.tables refl (sym c.requires.die.main_bytes) (sym c.requires.scheme.generations) some
     c.in-Some-idle_victim.victim first (g.D.Die.state c.find_first.new.die) is_first failed)

@@ -32,7 +32,8 @@ loop-rest-preserved c =
           let was = c.loop-rest.invariant.charged columns f in
           set_more columns _ _ _ c.args.basis.now c.args.set c.loop-rest.rest _ _ f was c.loop-rest.invariant.within l
           c.tag_of.result c.tag_of.ensures
-          (charged_at (length columns) c.loop-rest.row c.charge.new.words c.tag_of.result (omega (arith, c.tag_of.ensures, (f.cells _ (was.part _ l.in_set)).in_range)) c.charge.ensures.set c.charge.ensures.others);
+          (charged_at (length columns) c.loop-rest.row c.charge.new.words c.tag_of.result
+          (omega (arith, c.tag_of.ensures, (f.cells _ (was.part _ l.in_set)).in_range)) c.charge.ensures.set c.charge.ensures.others);
       others = λ n h i m. c.charge.ensures.others i (λ e. omega (arith, c.tag_of.ensures, h _ l.in_range)) ∙ c.loop-rest.invariant.others n h i m;
       within = l.less_within;
     }

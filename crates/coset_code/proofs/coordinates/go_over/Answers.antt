@@ -46,7 +46,8 @@ returns-in-None-find_solution-clause-went c =
     subst (λ s. ¬ (IsFreeSum masked (cells_of n words) (length masked) (bit_and (bit_xor wanted s) mask))) sum
     (subst (λ k. ¬ (IsFreeSum masked (cells_of k words) (length masked) (bit_and (bit_xor wanted c.syndrome_of.result) mask))) len c.in-None-find_solution.ensures.none) in (
       none_over c.args.bits columns (cells_of n words) c.number_of.result c.args.message.now c.requires.table m
-          (none_masked columns coords masked mask c.args.full.now c.requires.coordinates c.mask_all.ensures (cells_of n words) c.number_of.result wanted c.in-Some.ensures.within c.in-Some.ensures.found none),
+          (none_masked columns coords masked mask c.args.full.now c.requires.coordinates c.mask_all.ensures
+          (cells_of n words) c.number_of.result wanted c.in-Some.ensures.within c.in-Some.ensures.found none),
       refl,
     )
 
@@ -88,7 +89,8 @@ returns-in-Some-find_solution-clause-went c =
     } in
     let left : IsFreeSet columns mid full (bit_xor wanted (syndrome coords mid)) = left_free columns coords masked mask full work old mid wanted set half in
     let second : IsFreeSet columns mid full (bit_xor wanted (syndrome coords mid)) → IsChargedSet columns mid (cells_of n after) full (bit_xor wanted (syndrome coords mid)) 0 =
-    subst (λ x. IsFreeSet columns mid full (bit_xor wanted x) → IsChargedSet columns mid (cells_of n after) full (bit_xor wanted x) 0) sum_mid (c.charge_set-in-Some-find_solution.ensures.charged columns) in
+    subst (λ x. IsFreeSet columns mid full (bit_xor wanted x) → IsChargedSet columns mid (cells_of n after) full (bit_xor wanted x) 0) sum_mid
+    (c.charge_set-in-Some-find_solution.ensures.charged columns) in
     let done : IsThere columns old (cells_of n after) c.number_of.result =
     there columns coords masked mask full work old mid (cells_of n after) wanted set c.number_of.result half (second left) c.in-Some.ensures.found in
     let row : IsRow n after = record {

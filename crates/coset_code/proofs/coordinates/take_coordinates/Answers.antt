@@ -23,7 +23,9 @@ loop-place-preserved c =
     let all : HasOffered columns [] (length columns) full = search rules in
     elim c.match-express.branch [
       | in-Some w ↦
-          let after = rw (← w.coords-is) at (coordinates_more columns c.loop-place.coords full.columns n w.in-Some.set before (omega (arith, c.loop-place.auto.coords, c.requires.room)) w.in-Some.ensures.found w.in-Some.ensures.within) in
+          let after =
+          rw (← w.coords-is) at (coordinates_more columns c.loop-place.coords full.columns n w.in-Some.set before
+          (omega (arith, c.loop-place.auto.coords, c.requires.room)) w.in-Some.ensures.found w.in-Some.ensures.within) in
           record { sums = after.sums; within = after.within }
       | in-None w ↦ absurd (w.in-None.ensures.none.0 refl (column_spanned columns full all n (omega arith)))
     ]

@@ -8,6 +8,7 @@ pub loop-other-preserved : goal.loop-other-preserved
 loop-other-preserved c = λ coords old s.
     let now = c.loop-other.invariant coords old s in
     sound_set_two coords old c.args.count c.loop-other.other c.loop-other.rows _ _ now (omega arith) c.requires.few (omega arith)
-    (by_parts_second coords old _ _ _ _ _ _ _ _ _ _ _ _ _ _ _ (bit_at-lt _ _) (bit_at-lt _ _) (now c.loop-other.other (omega arith)) (s c.args.row (omega arith)) (s (c.args.row + 1) (omega arith)) c.requires.none c.requires.none_next
+    (by_parts_second coords old _ _ _ _ _ _ _ _ _ _ _ _ _ _ _ (bit_at-lt _ _) (bit_at-lt _ _) (now c.loop-other.other (omega arith)) (s c.args.row (omega arith))
+    (s (c.args.row + 1) (omega arith)) c.requires.none c.requires.none_next
     (c.spread-all.ensures _ (omega arith)) (c.spread-all.ensures _ (omega arith))
     (c.spread-too.ensures _ (omega arith)) (c.spread-too.ensures _ (omega arith)))

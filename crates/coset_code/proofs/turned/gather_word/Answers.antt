@@ -24,5 +24,6 @@ loop-left-preserved c =
       rows = λ columns coords full s t h.
           sound_more coords old c.loop-left.count 1 c.loop-left.rows _ _ _ (c.loop-left.invariant.rows columns coords full s t h)
           (omega arith) (omega arith) (omega arith)
-          (λ one. turned_row columns coords full c.args.table.now old _ c.wanted_bit.result s t (λ k. (c.type_inv.old k).fits) (omega (arith, l.in_word)) (c.loop-left.invariant.bits _ l.in_left) c.wanted_bit.ensures);
+          (λ one. turned_row columns coords full c.args.table.now old _ c.wanted_bit.result s t (λ k. (c.type_inv.old k).fits) (omega (arith, l.in_word))
+          (c.loop-left.invariant.bits _ l.in_left) c.wanted_bit.ensures);
     }

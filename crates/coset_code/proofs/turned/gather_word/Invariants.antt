@@ -10,7 +10,8 @@ abbrev pub invariant-loop-left : goal.invariant-loop-left
 invariant-loop-left l = record {
   few : l.count ≤ 128;
   bits : (i : ℕ) → bit_at l.left i ≡ 1 → word_bit l.old (64 * l.index + i) ≡ 1;
-  rows : (columns coords : List ℕ) (full : Family) → HasCoordinates columns coords full → IsTurned coords full l.table → AreSound coords l.old l.before l.fn.rows → AreSound coords l.old l.count l.rows;
+  rows : (columns coords : List ℕ) (full : Family) → HasCoordinates columns coords full → IsTurned coords full l.table → AreSound coords l.old l.before l.fn.rows
+      → AreSound coords l.old l.count l.rows;
 }
 
 abbrev pub decreases-loop-left : goal.decreases-loop-left

@@ -29,9 +29,12 @@ returns-clause-gone c = λ yes columns s.
     let wrote : c.deref-3.result.now ≡ after = c.deref-3.ensures.value ∙ all_written _ after _ (search rules) in
     let sum : c.syndrome_of.result ≡ syndrome coords (cells_of n trial) =
     c.syndrome_of.ensures ∙ ap (λ ws. syndrome coords (cells_of (length coords) ws)) read ∙ ap (λ k. syndrome coords (cells_of k trial)) s.coords_len in
-    let charged : IsFreeSet columns (cells_of n trial) full (bit_xor wanted c.syndrome_of.result) → IsChargedSet columns (cells_of n trial) (cells_of n after) full (bit_xor wanted c.syndrome_of.result) 0 =
-    subst (λ ws. IsFreeSet columns (cells_of n ws) full (bit_xor wanted c.syndrome_of.result) → IsChargedSet columns (cells_of n ws) (cells_of n after) full (bit_xor wanted c.syndrome_of.result) 0) held (c.charge_set.ensures.charged columns) in
-    let charge : IsFreeSet columns (cells_of n trial) full (bit_xor wanted (syndrome coords (cells_of n trial))) → IsChargedSet columns (cells_of n trial) (cells_of n after) full (bit_xor wanted (syndrome coords (cells_of n trial))) 0 =
+    let charged : IsFreeSet columns (cells_of n trial) full (bit_xor wanted c.syndrome_of.result)
+    → IsChargedSet columns (cells_of n trial) (cells_of n after) full (bit_xor wanted c.syndrome_of.result) 0 =
+    subst (λ ws. IsFreeSet columns (cells_of n ws) full (bit_xor wanted c.syndrome_of.result)
+    → IsChargedSet columns (cells_of n ws) (cells_of n after) full (bit_xor wanted c.syndrome_of.result) 0) held (c.charge_set.ensures.charged columns) in
+    let charge : IsFreeSet columns (cells_of n trial) full (bit_xor wanted (syndrome coords (cells_of n trial)))
+    → IsChargedSet columns (cells_of n trial) (cells_of n after) full (bit_xor wanted (syndrome coords (cells_of n trial))) 0 =
     subst (λ x. IsFreeSet columns (cells_of n trial) full (bit_xor wanted x) → IsChargedSet columns (cells_of n trial) (cells_of n after) full (bit_xor wanted x) 0) sum charged in
     let others : (m : ℕ) → ((p : ℕ) → p < length full.columns → get_or full.tags p 0 < m) → (i : ℕ) → m ≤ i → word_bit after i ≡ word_bit trial i =
     λ m h i l. c.charge_set.ensures.others m h i l ∙ ap (λ ws. word_bit ws i) held in

@@ -14,7 +14,8 @@ returns-in_err-sight-clause-fails g c =
     let i = c.loop-number.invariant in
     let p = err_from_is_err_and c.from_residual.result c.from_residual.ensures.1 in
     let most : c.loop-number.number + 1 ≤ (g.D.Die.state c.args.die.now).shape.pages = omega (arith, i.end, c.loop-number-test.true) in
-    rw p.1 (fails_after c.loop-number.number 1 (g.D.Die.state c.args.die.now).shape.pages (g.D.Die.state c.args.die.now) (g.D.Die.state c.loop-number.die) (g.D.Die.state c.read_page.new.die) most i.reads c.in_err-sight.ensures.fails)
+    rw p.1 (fails_after c.loop-number.number 1 (g.D.Die.state c.args.die.now).shape.pages (g.D.Die.state c.args.die.now) (g.D.Die.state c.loop-number.die)
+    (g.D.Die.state c.read_page.new.die) most i.reads c.in_err-sight.ensures.fails)
 
 pub loop-number-preserved : goal.loop-number-preserved
 loop-number-preserved g c =
@@ -38,7 +39,8 @@ returns-clause-read g c =
     let shows : Shows n die.cells c.args.block die.shape.pages c.loop-number.sight = subst (λ k. Shows n die.cells c.args.block k c.loop-number.sight) all i.shows in
     block_read n die.cells c.args.block c.found_state.result tables _ (subst (λ (s : Shape). c.args.block < s.blocks) (sym i.reads.kept.shape) c.requires.block)
     (subst (λ k. ReadInto n die.cells c.args.block k tables) all i.read)
-    (c.found_state.ensures n die.cells c.args.block (sym i.read.fits.sizes.generations ∙ sym c.generations-generations.ensures.value) (block_blank n die.cells c.args.block c.loop-number.sight shows) (block_level n die.cells c.args.block c.loop-number.sight i.read.fits.some_pages shows))
+    (c.found_state.ensures n die.cells c.args.block (sym i.read.fits.sizes.generations ∙ sym c.generations-generations.ensures.value)
+    (block_blank n die.cells c.args.block c.loop-number.sight shows) (block_level n die.cells c.args.block c.loop-number.sight i.read.fits.some_pages shows))
     (record { found = refl; map = refl; book = refl; seq = refl; seqs = refl; span = refl })
 
 pub returns-clause-reads : goal.returns-clause-reads

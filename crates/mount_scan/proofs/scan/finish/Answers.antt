@@ -5,4 +5,5 @@ use Rattle.mount_scan.proofs.scan.finish.Goals as goal
 
 pub returns : goal.returns
 returns c g cells shape some read free =
-    tables_are_mounted g cells c.args.reuse_max c.args.spare c.args.tables.now c.settle.new.tables _ shape some read free c.settle.ensures c.blocks-blocks.ensures.valid c.recycle_due.ensures.recycles refl refl
+    tables_are_mounted g cells c.args.reuse_max c.args.spare c.args.tables.now c.settle.new.tables _ shape some read free c.settle.ensures c.blocks-blocks.ensures.valid
+    c.recycle_due.ensures.recycles refl refl

@@ -38,5 +38,6 @@ loop-block-preserved g c =
     let block = c.loop-block.block in
     let pages : mid.shape.pages ≡ old.shape.pages = ap (λ (s : Shape). s.pages) i.reads.kept.shape in
     let sum : block * old.shape.pages + mid.shape.pages ≡ (block + 1) * old.shape.pages = omega (arith, pages) in
-    let reads : Reads ((block + 1) * old.shape.pages) old new = subst (λ (n : ℕ). Reads n old new) sum (reads_more (block * old.shape.pages) mid.shape.pages old mid new i.reads c.in_ok-read_block.ensures.reads) in
+    let reads : Reads ((block + 1) * old.shape.pages) old new =
+    subst (λ (n : ℕ). Reads n old new) sum (reads_more (block * old.shape.pages) mid.shape.pages old mid new i.reads c.in_ok-read_block.ensures.reads) in
     search rules

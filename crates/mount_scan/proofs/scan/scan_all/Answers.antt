@@ -48,7 +48,8 @@ returns-clause-mounted g c =
     let ok : is_err c.read_blocks.result ≡ false = sym c.is_err.ensures.value ∙ c.if-is_err.false in
     let reads : Reads (page_count old.shape) old new = on_ok_holds c.read_blocks.result ok c.read_blocks.ensures.reads in
     let read : ReadOn new work new.shape.blocks 0 tables = on_ok_holds c.read_blocks.result ok c.read_blocks.ensures.read in
-    let serves : Serves work new.shape = subst (λ (w : Sizes). Serves w new.shape) (sym c.read_blocks.ensures.same_work) (subst (λ (s : Shape). Serves c.args.work.now s) (sym reads.kept.shape) c.requires.work) in
+    let serves : Serves work new.shape =
+    subst (λ (w : Sizes). Serves w new.shape) (sym c.read_blocks.ensures.same_work) (subst (λ (s : Shape). Serves c.args.work.now s) (sym reads.kept.shape) c.requires.work) in
     let some : 0 < units n =
     as_before (λ m cells. 0 < units m) old new c.args.work.now work (length c.args.tables.now.map) (length tables.map)
     reads.kept.shape reads.same_cells.cells c.read_blocks.ensures.same_work c.read_blocks.ensures.same_sectors c.requires.tables.some_units in

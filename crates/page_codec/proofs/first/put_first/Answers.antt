@@ -23,7 +23,8 @@ returns-clause-put g c =
       room = omega (arith, items, c.work.invariant.page, c.work.invariant.two_slots);
       spare = c.write_first.ensures.spare;
     } in
-    first_write_puts (g.C.Scheme.meaning c.args.scheme.now) c.args.page c.args.header.now c.args.sector.now (g.D.Die.state c.args.die.now) (g.D.Die.state c.program_and_charge.new.die) c.write_first.new.page c.deref.result.now
+    first_write_puts (g.C.Scheme.meaning c.args.scheme.now) c.args.page c.args.header.now c.args.sector.now (g.D.Die.state c.args.die.now)
+    (g.D.Die.state c.program_and_charge.new.die) c.write_first.new.page c.deref.result.now
     c.work.inside.page_bytes (length c.deref_mut.result.now) c.gate_cell.result written scheme_bytes c.write_first.ensures.gives
     same c.gate_cell.ensures c.program_and_charge.ensures.kept.shape c.program_and_charge.ensures.only_page
     (reaches_any c.program_and_charge.result _ _ _ _ c.program_and_charge.ensures.done c.program_and_charge.ensures.in_part)

@@ -14,26 +14,31 @@ use Rattle.page_codec.proofs.second.put_pair.Goals as goal
 pub program-requires-clause-above : goal.program-requires-clause-above
 program-requires-clause-above g c =
     let w : IsPairWrite (place_of c.args.page c.args.slot) c.args.header.now (g.D.Die.state c.args.die.now) c.args.unit.now c.split_at.result.0.now c.split_at.result.1.now =
-    pair_parts (place_of c.args.page c.args.slot) c.args.header.now (g.D.Die.state c.args.die.now) c.args.unit.now c.split_at.result.0.now c.split_at.result.1.now (length c.args.unit.now / 2) c.split_at.ensures.front c.split_at.ensures.back (omega (arith, c.requires.unit))
+    pair_parts (place_of c.args.page c.args.slot) c.args.header.now (g.D.Die.state c.args.die.now) c.args.unit.now c.split_at.result.0.now c.split_at.result.1.now
+    (length c.args.unit.now / 2) c.split_at.ensures.front c.split_at.ensures.back (omega (arith, c.requires.unit))
     (g.met.D.Die.shaped c.args.die.now) c.requires.page c.requires.unit c.requires.above c.requires.within c.requires.blank in
     let further : c.write_main.new.whole ≡ with_main (g.D.Die.state c.args.die.now) (c.args.page + 1) c.split_at.result.1.now =
     c.write_main.ensures ∙ ap₂ (λ (n : ℕ) (row : List ℕ). c.split_at.result.1.now ++ drop n row) w.further.long c.requires.second in
-    subst (λ (row : List ℕ). IsAbove row (page_of (g.D.Die.state c.args.die.now) (c.args.page + 1))) (sym further) (further_above (place_of c.args.page c.args.slot) (g.D.Die.state c.args.die.now) c.split_at.result.1.now w.further)
+    subst (λ (row : List ℕ). IsAbove row (page_of (g.D.Die.state c.args.die.now) (c.args.page + 1))) (sym further)
+    (further_above (place_of c.args.page c.args.slot) (g.D.Die.state c.args.die.now) c.split_at.result.1.now w.further)
 
 pub returns-in_err-program-clause-put : goal.returns-in_err-program-clause-put
 returns-in_err-program-clause-put g c =
     let w : IsPairWrite (place_of c.args.page c.args.slot) c.args.header.now (g.D.Die.state c.args.die.now) c.args.unit.now c.split_at.result.0.now c.split_at.result.1.now =
-    pair_parts (place_of c.args.page c.args.slot) c.args.header.now (g.D.Die.state c.args.die.now) c.args.unit.now c.split_at.result.0.now c.split_at.result.1.now (length c.args.unit.now / 2) c.split_at.ensures.front c.split_at.ensures.back (omega (arith, c.requires.unit))
+    pair_parts (place_of c.args.page c.args.slot) c.args.header.now (g.D.Die.state c.args.die.now) c.args.unit.now c.split_at.result.0.now c.split_at.result.1.now
+    (length c.args.unit.now / 2) c.split_at.ensures.front c.split_at.ensures.back (omega (arith, c.requires.unit))
     (g.met.D.Die.shaped c.args.die.now) c.requires.page c.requires.unit c.requires.above c.requires.within c.requires.blank in
     let further : c.write_main.new.whole ≡ with_main (g.D.Die.state c.args.die.now) (c.args.page + 1) c.split_at.result.1.now =
     c.write_main.ensures ∙ ap₂ (λ (n : ℕ) (row : List ℕ). c.split_at.result.1.now ++ drop n row) w.further.long c.requires.second in
-    pair_torn (place_of c.args.page c.args.slot) c.args.header.now (g.D.Die.state c.args.die.now) (g.D.Die.state c.program.new.self) c.split_at.result.0.now c.split_at.result.1.now c.args.unit.now w.write w.further w.parts c.program.ensures.kept.shape c.program.ensures.only_page
+    pair_torn (place_of c.args.page c.args.slot) c.args.header.now (g.D.Die.state c.args.die.now)
+    (g.D.Die.state c.program.new.self) c.split_at.result.0.now c.split_at.result.1.now c.args.unit.now w.write w.further w.parts c.program.ensures.kept.shape c.program.ensures.only_page
     (subst (IsBetween (page_of (g.D.Die.state c.args.die.now) (c.args.page + 1)) (page_of (g.D.Die.state c.program.new.self) (c.args.page + 1))) further c.in_err-program.ensures.in_part)
 
 pub put_page-requires-clause-above : goal.put_page-requires-clause-above
 put_page-requires-clause-above g c =
     let w : IsPairWrite (place_of c.args.page c.args.slot) c.args.header.now (g.D.Die.state c.args.die.now) c.args.unit.now c.split_at.result.0.now c.split_at.result.1.now =
-    pair_parts (place_of c.args.page c.args.slot) c.args.header.now (g.D.Die.state c.args.die.now) c.args.unit.now c.split_at.result.0.now c.split_at.result.1.now (length c.args.unit.now / 2) c.split_at.ensures.front c.split_at.ensures.back (omega (arith, c.requires.unit))
+    pair_parts (place_of c.args.page c.args.slot) c.args.header.now (g.D.Die.state c.args.die.now) c.args.unit.now c.split_at.result.0.now c.split_at.result.1.now
+    (length c.args.unit.now / 2) c.split_at.ensures.front c.split_at.ensures.back (omega (arith, c.requires.unit))
     (g.met.D.Die.shaped c.args.die.now) c.requires.page c.requires.unit c.requires.above c.requires.within c.requires.blank in
     subst (IsAbove c.split_at.result.0.now)
     (sym (ap₂ (λ (s : Shape) (row : List ℕ). take s.main_bytes row) c.program.ensures.kept.shape (c.program.ensures.only_page.others c.args.page (λ e. omega arith))))
@@ -42,7 +47,8 @@ put_page-requires-clause-above g c =
 pub returns-clause-put : goal.returns-clause-put
 returns-clause-put g c =
     let w : IsPairWrite (place_of c.args.page c.args.slot) c.args.header.now (g.D.Die.state c.args.die.now) c.args.unit.now c.split_at.result.0.now c.split_at.result.1.now =
-    pair_parts (place_of c.args.page c.args.slot) c.args.header.now (g.D.Die.state c.args.die.now) c.args.unit.now c.split_at.result.0.now c.split_at.result.1.now (length c.args.unit.now / 2) c.split_at.ensures.front c.split_at.ensures.back (omega (arith, c.requires.unit))
+    pair_parts (place_of c.args.page c.args.slot) c.args.header.now (g.D.Die.state c.args.die.now) c.args.unit.now c.split_at.result.0.now c.split_at.result.1.now
+    (length c.args.unit.now / 2) c.split_at.ensures.front c.split_at.ensures.back (omega (arith, c.requires.unit))
     (g.met.D.Die.shaped c.args.die.now) c.requires.page c.requires.unit c.requires.above c.requires.within c.requires.blank in
     let further : c.write_main.new.whole ≡ with_main (g.D.Die.state c.args.die.now) (c.args.page + 1) c.split_at.result.1.now =
     c.write_main.ensures ∙ ap₂ (λ (n : ℕ) (row : List ℕ). c.split_at.result.1.now ++ drop n row) w.further.long c.requires.second in
@@ -51,13 +57,15 @@ returns-clause-put g c =
       only = c.program.ensures.only_page;
       there = c.in_ok-program.ensures.programmed ∙ further;
     } in
-    pair_puts (place_of c.args.page c.args.slot) c.args.header.now (g.D.Die.state c.args.die.now) (g.D.Die.state c.program.new.self) (g.D.Die.state c.put_page.new.die) c.split_at.result.0.now c.split_at.result.1.now c.args.unit.now w.write w.further w.parts m c.put_page.ensures.kept.shape c.put_page.ensures.only_page
+    pair_puts (place_of c.args.page c.args.slot) c.args.header.now (g.D.Die.state c.args.die.now) (g.D.Die.state c.program.new.self)
+    (g.D.Die.state c.put_page.new.die) c.split_at.result.0.now c.split_at.result.1.now c.args.unit.now w.write w.further w.parts m c.put_page.ensures.kept.shape c.put_page.ensures.only_page
     (reaches_any c.put_page.result _ _ _ _ c.put_page.ensures.done c.put_page.ensures.in_part)
 
 pub returns-clause-gated : goal.returns-clause-gated
 returns-clause-gated g c =
     let w : IsPairWrite (place_of c.args.page c.args.slot) c.args.header.now (g.D.Die.state c.args.die.now) c.args.unit.now c.split_at.result.0.now c.split_at.result.1.now =
-    pair_parts (place_of c.args.page c.args.slot) c.args.header.now (g.D.Die.state c.args.die.now) c.args.unit.now c.split_at.result.0.now c.split_at.result.1.now (length c.args.unit.now / 2) c.split_at.ensures.front c.split_at.ensures.back (omega (arith, c.requires.unit))
+    pair_parts (place_of c.args.page c.args.slot) c.args.header.now (g.D.Die.state c.args.die.now) c.args.unit.now c.split_at.result.0.now c.split_at.result.1.now
+    (length c.args.unit.now / 2) c.split_at.ensures.front c.split_at.ensures.back (omega (arith, c.requires.unit))
     (g.met.D.Die.shaped c.args.die.now) c.requires.page c.requires.unit c.requires.above c.requires.within c.requires.blank in
     let further : c.write_main.new.whole ≡ with_main (g.D.Die.state c.args.die.now) (c.args.page + 1) c.split_at.result.1.now =
     c.write_main.ensures ∙ ap₂ (λ (n : ℕ) (row : List ℕ). c.split_at.result.1.now ++ drop n row) w.further.long c.requires.second in
@@ -66,7 +74,8 @@ returns-clause-gated g c =
       only = c.program.ensures.only_page;
       there = c.in_ok-program.ensures.programmed ∙ further;
     } in
-    on_ok c.put_page.result (pair_gated (place_of c.args.page c.args.slot) c.args.header.now (g.D.Die.state c.args.die.now) (g.D.Die.state c.program.new.self) (g.D.Die.state c.put_page.new.die) c.split_at.result.0.now c.split_at.result.1.now w.write w.further m c.put_page.ensures.kept.shape) c.put_page.ensures.done
+    on_ok c.put_page.result (pair_gated (place_of c.args.page c.args.slot) c.args.header.now (g.D.Die.state c.args.die.now) (g.D.Die.state c.program.new.self)
+    (g.D.Die.state c.put_page.new.die) c.split_at.result.0.now c.split_at.result.1.now w.write w.further m c.put_page.ensures.kept.shape) c.put_page.ensures.done
 
 pub returns-clause-kept : goal.returns-clause-kept
 returns-clause-kept g c = kept_trans c.program.ensures.kept c.put_page.ensures.kept

@@ -13,7 +13,8 @@ invariant_of-result g c =
     let meaning = g.C.Scheme.meaning c.args.scheme in
     let room = c.requires.room in
     let tables = c.scan_all.new.tables in
-    subst (λ (sizes : Sizes). IsHeld g.C.Scheme.meaning sizes c.args.room.moves (held g.C.Scheme.meaning new c.args.scheme tables.map tables.book tables.seq 0 false)) (sym c.scan_all.ensures.same_work)
+    subst (λ (sizes : Sizes). IsHeld g.C.Scheme.meaning sizes c.args.room.moves (held g.C.Scheme.meaning new c.args.scheme tables.map tables.book tables.seq 0 false))
+    (sym c.scan_all.ensures.same_work)
     (store_held g.C.Scheme.meaning c.args.scheme old new c.args.plan c.args.room.work tables (length c.args.room.tables.map) c.requires.fits room.work
     (new_sectors old.shape c.args.plan.sectors meaning.span meaning.generations c.args.room.tables room.tables) c.in-Ok.ensures.reads c.in-Ok.ensures.mounted
     room.moves room.tables.some_units)

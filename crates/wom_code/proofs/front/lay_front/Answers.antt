@@ -6,7 +6,9 @@ use Rattle.wom_code.proofs.front.lay_front.Goals as goal
 
 pub loop-place-preserved : goal.loop-place-preserved
 loop-place-preserved c = record {
-  laid = laid_more c.args.turned c.args.count c.args.out.now c.args.bits.now c.loop-place.out c.loop-place.place c.front_word.result (omega arith) c.front_word.ensures c.loop-place.invariant.rest c.loop-place.invariant.laid;
+  laid =
+      laid_more c.args.turned c.args.count c.args.out.now c.args.bits.now c.loop-place.out c.loop-place.place c.front_word.result
+      (omega arith) c.front_word.ensures c.loop-place.invariant.rest c.loop-place.invariant.laid;
   rest = λ i h. set_word_other c.loop-place.out c.loop-place.place _ i (omega arith) ∙ c.loop-place.invariant.rest i (omega arith);
 }
 

@@ -28,7 +28,8 @@ all_written n xs ys e = ap (λ k. take k (xs ++ ys)) e ∙ front xs
     front (z ∷ zs) = ap (λ t. z ∷ t) (front zs)
 
 -- the same tables by other names
-moved : (columns columns' coords coords' : List ℕ) (full full' : Family) → HasCoordinates columns coords full → columns ≡ columns' → coords ≡ coords' → full ≡ full' → HasCoordinates columns' coords' full'
+moved : (columns columns' coords coords' : List ℕ) (full full' : Family) → HasCoordinates columns coords full → columns ≡ columns' → coords ≡ coords' → full ≡ full'
+    → HasCoordinates columns' coords' full'
 moved columns columns' coords coords' full full' s e f h =
     subst (λ cs. HasCoordinates cs coords' full') e (subst (λ cs. HasCoordinates columns cs full') f (subst (HasCoordinates columns coords) h s))
 

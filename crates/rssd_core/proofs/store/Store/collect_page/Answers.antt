@@ -43,7 +43,8 @@ pub invariant_of-self-in-Err-Read : goal.invariant_of-self-in-Err-Read
 invariant_of-self-in-Err-Read g c =
     let branch = collect_here c.self.view_is c.self.invariant c.requires.running c.args.spare c.requires.branch in
     let done = c.in-Err-Read.ensures.read_failed c.args.victim c.args.spare branch (ap Err c.in-Err-Read.field-0-is) in
-    after_held c.collect.ensures.holds c.collect.ensures.same_scheme (ap (length {A = Option Entry}) done.table) c.self.invariant c.collect.ensures.same_work c.collect.ensures.same_room (λ _. done.tables)
+    after_held c.collect.ensures.holds c.collect.ensures.same_scheme (ap (length {A = Option Entry}) done.table) c.self.invariant c.collect.ensures.same_work c.collect.ensures.same_room
+    (λ _. done.tables)
 
 pub invariant_of-self-in-Err-Change : goal.invariant_of-self-in-Err-Change
 invariant_of-self-in-Err-Change g c =

@@ -20,7 +20,8 @@ returns-in-Ok-clause-ends g c =
       unit = c.in-Some.unit;
       offer = subst (λ x. IsOffer x.cells.book c.in-Some.unit) c.self.view_is c.in-Some.ensures.found;
       start = mid.cells;
-      declined = subst (λ (x : Carry). OverEnds old.geometry (g.C.Scheme.meaning old.scheme).decoding c.in-Some.unit (header_at c.args.sector old.cells.seq) c.args.bytes.now (Ok x) old.cells mid.cells)
+      declined =
+          subst (λ (x : Carry). OverEnds old.geometry (g.C.Scheme.meaning old.scheme).decoding c.in-Some.unit (header_at c.args.sector old.cells.seq) c.args.bytes.now (Ok x) old.cells mid.cells)
           c.in-Ok-Declined.field-0-is c.in-Ok-Declined.ensures.ends;
       ends = subst (λ (n : ℕ). CleanEnds old.geometry (g.C.Scheme.meaning old.scheme).decoding c.args.sector c.args.bytes.now (Ok tt) mid.cells last.cells n last.moved)
           c.put_over.ensures.same_moved
@@ -48,6 +49,7 @@ pub returns-in-Err-clause-ends : goal.returns-in-Err-clause-ends
 returns-in-Err-clause-ends g c =
     let old = c.args.self.now in
     let last = c.put_over.new.self in
-    subst (λ (n : ℕ). PlaceEnds old.geometry (g.C.Scheme.meaning old.scheme).decoding c.args.sector c.args.bytes.now (Err c.in-Err.fault) old.cells last.cells old.moved n) (sym c.in-Err.ensures.same_moved)
+    subst (λ (n : ℕ). PlaceEnds old.geometry (g.C.Scheme.meaning old.scheme).decoding c.args.sector c.args.bytes.now (Err c.in-Err.fault) old.cells last.cells old.moved n)
+    (sym c.in-Err.ensures.same_moved)
     (over_faults old.geometry (g.C.Scheme.meaning old.scheme).decoding c.args.sector c.args.bytes.now c.in-Some.unit c.in-Err.fault old.cells last.cells old.moved
     (subst (λ x. IsOffer x.cells.book c.in-Some.unit) c.self.view_is c.in-Some.ensures.found) c.in-Err.ensures.ends)

@@ -1,7 +1,8 @@
 -- The put is one over the offered unit, and its outcomes follow from the gate.
 use Rattle.std.proofs.Common.{refl, ap, length, ◌∙◌, length-set}
 use Rattle.rssd_core.proofs.StoreLaws.{after_keeps, after_held}
-use Rattle.rssd_core.proofs.StoreOver.{over_here, over_page, carried_holds, carried_within, carried_room, carried_drops, carried_offer, carried_true, carried_ends, declined_holds, declined_true, declined_ends, unread_holds, unread_ends, failed_holds, failed_ends}
+use Rattle.rssd_core.proofs.StoreOver.{over_here, over_page, carried_holds, carried_within, carried_room, carried_drops, carried_offer, carried_true, carried_ends, declined_holds, declined_true}
+use Rattle.rssd_core.proofs.StoreOver.{declined_ends, unread_holds, unread_ends, failed_holds, failed_ends}
 use Rattle.rssd_core.proofs.store.Store.put_over.Goals as goal
 
 pub record_effect-requires-clause-page : goal.record_effect-requires-clause-page

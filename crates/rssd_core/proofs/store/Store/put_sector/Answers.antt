@@ -61,7 +61,8 @@ returns-clause-keeps g c =
     let here = sector_here c.self.view_is c.self.invariant c.requires.running c.requires.page c.requires.small c.requires.sector c.ranges.sector.fits
     (g.met.D.Die.shaped c.self.inside.die) (g.met.D.Die.shaped c.put_first.new.die) c.put_first.ensures.kept c.requires.bytes (λ k. (c.type_inv.bytes k).fits)
     (g.met.C.Scheme.decodes c.self.inside.scheme) c.put_first.ensures.put in
-    after_keeps (put_holds here c.record_effect.new.map c.record_effect.new.book) c.put_first.ensures.same_scheme (ap length c.record_effect.ensures.map ∙ length-set c.self.inside.map c.args.sector _) c.self.view_is
+    after_keeps (put_holds here c.record_effect.new.map c.record_effect.new.book) c.put_first.ensures.same_scheme
+    (ap length c.record_effect.ensures.map ∙ length-set c.self.inside.map c.args.sector _) c.self.view_is
 
 pub returns-clause-put : goal.returns-clause-put
 returns-clause-put g c =

@@ -14,7 +14,8 @@ get_row-requires-clause-pages g c = read_pages c.self.invariant c.self.view_is c
 pub invariant_of-self : goal.invariant_of-self
 invariant_of-self g c =
     let numbers = geometry_of (g.D.Die.state c.self.inside.die).shape (g.C.Scheme.meaning c.self.inside.scheme) (length c.self.inside.map) in
-    after_held (read_holds numbers c.self.inside.map c.self.inside.book c.self.inside.seq c.get_row.ensures.same_cells c.get_row.ensures.kept) refl refl c.self.invariant c.get_row.ensures.same_work refl
+    after_held (read_holds numbers c.self.inside.map c.self.inside.book c.self.inside.seq c.get_row.ensures.same_cells c.get_row.ensures.kept) refl refl c.self.invariant c.get_row.ensures.same_work
+    refl
     (λ runs. read_tables numbers c.get_row.ensures.same_cells (c.self.invariant.stands.tables runs))
 
 pub returns-clause-keeps : goal.returns-clause-keeps
@@ -23,7 +24,8 @@ returns-clause-keeps g c =
     after_keeps (read_holds numbers c.self.inside.map c.self.inside.book c.self.inside.seq c.get_row.ensures.same_cells c.get_row.ensures.kept) refl refl c.self.view_is
 
 pub returns-clause-row : goal.returns-clause-row
-returns-clause-row g c = subst (λ (row : List ℕ). OnOk c.get_row.result (c.get_row.new.into ≡ row)) (read_row c.self.invariant c.self.view_is c.requires.running c.requires.sector c.get-entry.ensures) c.get_row.ensures.got
+returns-clause-row g c =
+    subst (λ (row : List ℕ). OnOk c.get_row.result (c.get_row.new.into ≡ row)) (read_row c.self.invariant c.self.view_is c.requires.running c.requires.sector c.get-entry.ensures) c.get_row.ensures.got
 
 pub returns-clause-calls : goal.returns-clause-calls
 returns-clause-calls g c = read_calls c.self.invariant c.self.view_is c.requires.running c.requires.sector c.get-entry.ensures
