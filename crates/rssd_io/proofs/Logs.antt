@@ -1,7 +1,7 @@
 -- Logs that grow: what came after the old events, its bytes and its failures.
-use Rattle.std.proofs.Common.{◌≡◌, ℕ, ◌+◌, ◌<◌, ◌≤◌, List, [], ◌∷◌, ◌++◌, length, take, map, Option, None, Some, refl, sym, ap, ◌∙◌, subst, arith, append-nil, append_assoc}
+use Rattle.std.proofs.Common.{◌≡◌, ℕ, ◌+◌, List, [], ◌∷◌, ◌++◌, take, None, Some, refl, sym, ap, ◌∙◌, arith, append-nil, append_assoc}
 use Rattle.std.proofs.lemmas.List.Concat.{flat_map-append}
-use Rattle.rssd_io.specs.Event.{Event, EndsWith, HasEnded, HasFailed, Adds, moved, flushed, failed, bytes_in, bytes_of, failures, since}
+use Rattle.rssd_io.specs.Event.{Event, EndsWith, HasFailed, Adds, moved, failed, bytes_in, bytes_of, failures, since}
 use Rattle.rssd_io.specs.Pieces.{all_given}
 
 pub since_append : (old events : List Event) → since old (old ++ events) ≡ events

@@ -1,5 +1,5 @@
 -- Pieces that were given, and then what waited was handed on, or was not.
-use Rattle.std.proofs.Common.{◌≡◌, ℕ, ◌<◌, List, [], ◌∷◌, ◌++◌, take, Result, Ok, Err, inl, inr, refl, ap, ◌∙◌, arith, append_assoc}
+use Rattle.std.proofs.Common.{◌≡◌, ℕ, List, [], ◌∷◌, ◌++◌, take, Result, Ok, Err, inl, inr, ap, ◌∙◌, arith, append_assoc}
 use Rattle.std.specs.Prelude.{OnOk, OnErr}
 use Rattle.rssd_io.specs.Event.{Event, Flushed, moved, flushed, failed}
 use Rattle.rssd_io.specs.Pieces.{all_given, Gives, HandsOn, StopsIn}

@@ -1,6 +1,6 @@
 //! A sink that gathers pieces, and hands them on together to the sink below it.
-ghost use Rattle.std.specs.Prelude.{◌≡◌, ◌≤◌, [], OnOk, length};
-ghost use Rattle.rssd_io.specs.Buffer.{HandsThrough};
+ghost use Rattle.std.specs.Prelude.{◌≡◌, ◌≤◌, ◌++◌, [], OnOk, OnErr, length};
+ghost use Rattle.rssd_io.specs.Buffer.{HandsThrough, HandsFront};
 ghost use Rattle.rssd_io.specs.Event.{HasFlushed};
 
 use crate::log::Log;
@@ -35,6 +35,7 @@ impl<S: Sink + Drop> BufSink<S> {
         ensures same_log { self.new.log ≡ self.old.log }
         ensures none { self.new.waiting.items ≡ [] }
         ensures passes { OnOk result (HandsThrough (S.log self.old.inner) (S.log self.new.inner) self.old.waiting.items [] []) }
+        ensures front { OnErr result (HandsFront (S.log self.old.inner) (S.log self.new.inner) self.old.waiting.items) }
     {
         let given = self.inner.give(self.waiting.as_slice());
         self.waiting.clear();
@@ -47,6 +48,7 @@ impl<S: Sink + Drop> BufSink<S> {
         ensures none { self.new.waiting.items ≡ [] }
         ensures passes { OnOk result (HandsThrough (S.log self.old.inner) (S.log self.new.inner) self.old.waiting.items [] []) }
         ensures below { OnOk result (HasFlushed (S.log self.new.inner)) }
+        ensures front { OnErr result (HandsFront (S.log self.old.inner) (S.log self.new.inner) self.old.waiting.items) }
     {
         self.hand_on()?;
         self.inner.flush()
@@ -57,6 +59,8 @@ impl<S: Sink + Drop> BufSink<S> {
         ensures room { length self.new.waiting.items ≤ 8_192 }
         ensures same_log { self.new.log ≡ self.old.log }
         ensures passes { OnOk result (HandsThrough (S.log self.old.inner) (S.log self.new.inner) self.old.waiting.items self.new.waiting.items piece.now) }
+        ensures front { OnErr result (HandsFront (S.log self.old.inner) (S.log self.new.inner) (self.old.waiting.items ++ piece.now)) }
+        ensures lost { OnErr result (self.new.waiting.items ≡ []) }
     {
         if self.waiting.try_extend_from_slice(piece).is_ok() {
             return Ok(());
@@ -70,9 +74,9 @@ impl<S: Sink + Drop> BufSink<S> {
 }
 
 impl<S: Sink + Drop> Sink for BufSink<S> {
-    ghost use Rattle.std.specs.Prelude.{◌≡◌, ◌≤◌, [], None, OnOk, OnErr, length};
+    ghost use Rattle.std.specs.Prelude.{◌≡◌, ◌≤◌, ◌++◌, [], None, OnOk, OnErr, length};
     ghost use Rattle.std.specs.Io.KnownBytes.{Appends, Keeps};
-    ghost use Rattle.rssd_io.specs.Buffer.{HandsThrough};
+    ghost use Rattle.rssd_io.specs.Buffer.{HandsThrough, HandsFront};
     ghost use Rattle.rssd_io.specs.Event.{Gave, Flushed, HasFlushed};
     ghost use Rattle.rssd_io.specs.Faults.{AppendsFront};
 
@@ -87,6 +91,9 @@ impl<S: Sink + Drop> Sink for BufSink<S> {
         // What goes to the sink below, and how much waits at most.
         ensures passes { OnOk result (HandsThrough (S.log self.old.inner) (S.log self.new.inner) self.old.waiting.items self.new.waiting.items piece.now) }
         ensures room { length self.new.waiting.items ≤ 8_192 }
+        // A give that fails: how much went to the sink below, and that what waited is lost.
+        ensures front { OnErr result (HandsFront (S.log self.old.inner) (S.log self.new.inner) (self.old.waiting.items ++ piece.now)) }
+        ensures lost { OnErr result (self.new.waiting.items ≡ []) }
     {
         match self.gather(piece) {
             Ok(()) => {
@@ -106,8 +113,10 @@ impl<S: Sink + Drop> Sink for BufSink<S> {
         ensures same { Keeps None None }
         // All that waited goes to the sink below, which is flushed too.
         ensures passes { OnOk result (HandsThrough (S.log self.old.inner) (S.log self.new.inner) self.old.waiting.items [] []) }
-        ensures none { OnOk result (self.new.waiting.items ≡ []) }
         ensures below { OnOk result (HasFlushed (S.log self.new.inner)) }
+        // A flush that fails: how much went to the sink below. Nothing waits after a flush; what did and did not go is lost.
+        ensures front { OnErr result (HandsFront (S.log self.old.inner) (S.log self.new.inner) self.old.waiting.items) }
+        ensures none { self.new.waiting.items ≡ [] }
     {
         match self.empty() {
             Ok(()) => {

@@ -97,7 +97,8 @@ impl HonestSource {
 
     /// A source of which nothing was taken yet.
     pub fn new(bytes: Vec<u8>) -> HonestSource
-        ensures { honest_left result ≡ bytes.items }
+        ensures left { honest_left result ≡ bytes.items }
+        ensures log { result.log.events ≡ [] }
     {
         HonestSource {
             bytes,

@@ -17,7 +17,8 @@ pub(crate) struct Opener<'a, R: Files> {
 
 impl<'a, R: Files> Opener<'a, R> {
     pub(crate) fn new(rt: &'a R, name: &'a str) -> Opener<'a, R>
-        ensures { result.log.events ≡ [] }
+        ensures log { result.log.events ≡ [] }
+        ensures name { result.name.now ≡ name.now }
     {
         Opener {
             rt,
@@ -28,7 +29,8 @@ impl<'a, R: Files> Opener<'a, R> {
 
     /// Opens the file, or notes that this failed.
     pub(crate) fn open(&mut self) -> Result<R::File, ReadFault>
-        ensures { MatchResult result (λ _. self.new.log.events ≡ self.old.log.events) (λ _. self.new.log.events ≡ self.old.log.events ++ failed ∷ []) }
+        ensures log { MatchResult result (λ _. self.new.log.events ≡ self.old.log.events) (λ _. self.new.log.events ≡ self.old.log.events ++ failed ∷ []) }
+        ensures same_name { self.new.name ≡ self.old.name }
     {
         match fs::open(self.rt, self.name) {
             Ok(file) => Ok(file),

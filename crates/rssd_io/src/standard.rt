@@ -22,7 +22,8 @@ pub struct StdSource<R: Read> {
 impl<R: Read> StdSource<R> {
     /// A source that was not called yet.
     pub fn new(inner: R) -> StdSource<R>
-        ensures { source_log result ≡ [] }
+        ensures log { source_log result ≡ [] }
+        ensures inner { result.inner ≡ inner }
     {
         StdSource {
             inner,
@@ -60,7 +61,8 @@ pub struct StdSink<W: Write> {
 impl<W: Write> StdSink<W> {
     /// A sink that was not called yet.
     pub fn new(inner: W) -> StdSink<W>
-        ensures { sink_log result ≡ [] }
+        ensures log { sink_log result ≡ [] }
+        ensures inner { result.inner ≡ inner }
     {
         StdSink {
             inner,

@@ -29,6 +29,7 @@ impl<'a, R: Files> Place<'a, R> {
     pub(crate) fn new(rt: &'a R, name: &'a str) -> Place<'a, R>
         ensures log { result.log.events ≡ [] }
         ensures sound { result.is_lost ≡ false }
+        ensures name { result.name.now ≡ name.now }
     {
         Place {
             rt,
@@ -63,8 +64,10 @@ impl<'a, R: Files> Place<'a, R> {
 
     /// Creates the file, or notes that this failed.
     pub(crate) fn create(&mut self) -> Result<StdSink<R::File>, WriteFault>
-        ensures { MatchResult result (λ sink. (sink.log.events ≡ self.old.log.events) × (self.new.is_lost ≡ false))
-            (λ _. self.new.log.events ≡ self.old.log.events ++ moved [] ∷ failed ∷ []) }
+        ensures log { MatchResult result (λ sink. sink.log.events ≡ self.old.log.events) (λ _. self.new.log.events ≡ self.old.log.events ++ moved [] ∷ failed ∷ []) }
+        ensures sound { OnOk result ((self.old.is_lost ≡ false) × (self.new.is_lost ≡ false)) }
+        ensures lost { OnErr result (self.new.is_lost ≡ true) }
+        ensures same_name { self.new.name ≡ self.old.name }
     {
         let opened = if self.is_lost {
             None
@@ -91,7 +94,9 @@ impl<'a, R: Files> Place<'a, R> {
     /// Puts the file that was written in its place, in one step, or notes that this failed.
     pub(crate) fn put(&mut self, written: StdSink<R::File>) -> Result<(), WriteFault>
         ensures log { Flushed result written.log.events self.new.log.events }
-        ensures ok { OnOk result (self.new.is_lost ≡ false) }
+        ensures sound { OnOk result ((self.old.is_lost ≡ false) × (self.new.is_lost ≡ false)) }
+        ensures lost { OnErr result (self.new.is_lost ≡ true) }
+        ensures same_name { self.new.name ≡ self.old.name }
     {
         self.log = written.log;
         if !self.is_lost && self.replace_with(written.inner).is_ok() {
@@ -113,6 +118,7 @@ impl<'a, R: Files> Place<'a, R> {
     pub(crate) fn give_up(&mut self, written: StdSink<R::File>)
         ensures log { self.new.log.events ≡ written.log.events }
         ensures lost { self.new.is_lost ≡ true }
+        ensures same_name { self.new.name ≡ self.old.name }
     {
         self.log = written.log;
         self.remove();
@@ -122,6 +128,7 @@ impl<'a, R: Files> Place<'a, R> {
     fn remove(&mut self)
         ensures log { self.new.log ≡ self.old.log }
         ensures lost { self.new.is_lost ≡ true }
+        ensures same_name { self.new.name ≡ self.old.name }
     {
         let _ = fs::remove_file(self.rt, self.beside.as_str());
         self.is_lost = true;
@@ -130,8 +137,10 @@ impl<'a, R: Files> Place<'a, R> {
     /// Nothing waits where nothing was written and nothing was lost.
     pub(crate) fn keep(&mut self) -> Result<(), WriteFault>
         ensures log { Flushed result self.old.log.events self.new.log.events }
-        ensures ok { OnOk result (self.old.is_lost ≡ false) }
+        ensures sound { OnOk result (self.old.is_lost ≡ false) }
+        ensures lost { OnErr result (self.old.is_lost ≡ true) }
         ensures same { self.new.is_lost ≡ self.old.is_lost }
+        ensures same_name { self.new.name ≡ self.old.name }
     {
         if self.is_lost {
             self.log.note_failure();

@@ -32,12 +32,6 @@ use Rattle.rssd_io.specs.contracts.log.Log.note_flush.Key.{name as #it}
 use Rattle.rssd_io.specs.contracts.log.Log.note_flush as it
 use Rattle.rssd_io.proofs.log.Log.note_flush.Statement as stated
 use Rattle.rssd_io.proofs.log.Log.note_flush.Code as code
-use denote.Ref.{Bor}
-use denote.Builtin.{u8}
-use denote.Exit.{yes}
-use denote.Slice.{ShrSlice, slice_val, shr_slice_vals, shr_slice_Tells}
-use denote.Triple.Walked.{stay_none_slice, Goes-none_slice}
-use Rattle.std.proofs.Common.{◌<◌, ◌^◌, length}
 
 abbrev Arg : Type 0
 Arg = MutBor Log × Unit {0}
