@@ -75,10 +75,9 @@ impl<S: Sink + Drop> BufSink<S> {
 
 impl<S: Sink + Drop> Sink for BufSink<S> {
     ghost use Rattle.std.specs.Prelude.{◌≡◌, ◌≤◌, ◌++◌, [], None, OnOk, OnErr, length};
-    ghost use Rattle.std.specs.Io.KnownBytes.{Appends, Keeps};
     ghost use Rattle.rssd_io.specs.Buffer.{HandsThrough, HandsFront};
     ghost use Rattle.rssd_io.specs.Event.{Gave, Flushed, HasFlushed};
-    ghost use Rattle.rssd_io.specs.Faults.{AppendsFront};
+    ghost use Rattle.rssd_io.specs.Told.{TellsHeld};
 
     ghost log = { λ s. s.log.events };
 
@@ -86,8 +85,7 @@ impl<S: Sink + Drop> Sink for BufSink<S> {
 
     fn give(&mut self, piece: &[u8]) -> Result<(), WriteFault>
         ensures log { Gave result piece.now self.old.log.events self.new.log.events }
-        ensures ok { OnOk result (Appends None None piece.now) }
-        ensures err { OnErr result (AppendsFront None None piece.now) }
+        ensures held { TellsHeld None None self.old.log.events self.new.log.events }
         // What goes to the sink below, and how much waits at most.
         ensures passes { OnOk result (HandsThrough (S.log self.old.inner) (S.log self.new.inner) self.old.waiting.items self.new.waiting.items piece.now) }
         ensures room { length self.new.waiting.items ≤ 8_192 }
@@ -110,7 +108,7 @@ impl<S: Sink + Drop> Sink for BufSink<S> {
 
     fn flush(&mut self) -> Result<(), WriteFault>
         ensures log { Flushed result self.old.log.events self.new.log.events }
-        ensures same { Keeps None None }
+        ensures held { TellsHeld None None self.old.log.events self.new.log.events }
         // All that waited goes to the sink below, which is flushed too.
         ensures passes { OnOk result (HandsThrough (S.log self.old.inner) (S.log self.new.inner) self.old.waiting.items [] []) }
         ensures below { OnOk result (HasFlushed (S.log self.new.inner)) }

@@ -85,9 +85,8 @@ impl<'a, R: Files> FileSink<'a, R> {
 
 impl<'a, R: Files> Sink for FileSink<'a, R> {
     ghost use Rattle.std.specs.Prelude.{◌≡◌, true, false, None, OnOk, OnErr};
-    ghost use Rattle.std.specs.Io.KnownBytes.{Appends, Keeps};
     ghost use Rattle.rssd_io.specs.Event.{Gave, Flushed};
-    ghost use Rattle.rssd_io.specs.Faults.{AppendsFront};
+    ghost use Rattle.rssd_io.specs.Told.{TellsHeld};
     ghost use Rattle.rssd_io.specs.Files.{placed_log};
 
     ghost log = { λ s. placed_log s.place.log.events s.written };
@@ -96,8 +95,7 @@ impl<'a, R: Files> Sink for FileSink<'a, R> {
 
     fn give(&mut self, piece: &[u8]) -> Result<(), WriteFault>
         ensures log { Gave result piece.now (placed_log self.old.place.log.events self.old.written) (placed_log self.new.place.log.events self.new.written) }
-        ensures ok { OnOk result (Appends None None piece.now) }
-        ensures err { OnErr result (AppendsFront None None piece.now) }
+        ensures held { TellsHeld None None (placed_log self.old.place.log.events self.old.written) (placed_log self.new.place.log.events self.new.written) }
         // After a failure every call fails, and the file has one name.
         ensures sound { OnOk result ((self.old.place.is_lost ≡ false) × (self.new.place.is_lost ≡ false)) }
         ensures lost { OnErr result (self.new.place.is_lost ≡ true) }
@@ -117,7 +115,7 @@ impl<'a, R: Files> Sink for FileSink<'a, R> {
 
     fn flush(&mut self) -> Result<(), WriteFault>
         ensures log { Flushed result (placed_log self.old.place.log.events self.old.written) (placed_log self.new.place.log.events self.new.written) }
-        ensures same { Keeps None None }
+        ensures held { TellsHeld None None (placed_log self.old.place.log.events self.old.written) (placed_log self.new.place.log.events self.new.written) }
         // All that was written is in its place, and nothing of it was lost.
         ensures placed { OnOk result ((self.new.written ≡ None) × (self.new.place.is_lost ≡ false)) }
         // After a failure every call fails, and the file has one name.

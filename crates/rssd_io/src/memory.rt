@@ -185,10 +185,10 @@ impl MemSink {
 }
 
 impl Sink for MemSink {
-    ghost use Rattle.std.specs.Prelude.{◌≡◌, ◌↔◌, ◌⊎◌, ◌+◌, ◌<◌, Some, length, Contains, IsErr, OnOk, OnErr};
-    ghost use Rattle.std.specs.Io.KnownBytes.{Appends, Keeps};
+    ghost use Rattle.std.specs.Prelude.{◌≡◌, ◌↔◌, ◌⊎◌, ◌+◌, ◌++◌, ◌<◌, Some, length, Contains, IsErr, OnOk, OnErr};
     ghost use Rattle.rssd_io.specs.Event.{Gave, Flushed};
-    ghost use Rattle.rssd_io.specs.Faults.{AppendsFront, raised};
+    ghost use Rattle.rssd_io.specs.Faults.{raised};
+    ghost use Rattle.rssd_io.specs.Told.{TellsHeld};
     ghost use Rattle.rssd_io.specs.Memory.{sink_written, sink_log, sink_calls, sink_fail_at, sink_room};
 
     ghost log = { sink_log };
@@ -196,9 +196,9 @@ impl Sink for MemSink {
     ghost written = { λ s. Some (sink_written s) };
 
     fn give(&mut self, piece: &[u8]) -> Result<(), WriteFault>
-        ensures ok { OnOk result (Appends (Some (sink_written self.old)) (Some (sink_written self.new)) piece.now) }
-        ensures err { OnErr result (AppendsFront (Some (sink_written self.old)) (Some (sink_written self.new)) piece.now) }
         ensures log { Gave result piece.now (sink_log self.old) (sink_log self.new) }
+        ensures held { TellsHeld (Some (sink_written self.old)) (Some (sink_written self.new)) (sink_log self.old) (sink_log self.new) }
+        ensures all { OnOk result (sink_written self.new ≡ sink_written self.old ++ piece.now) }
         // Which calls fail, and that they append nothing.
         ensures listed { IsErr result ↔ (Contains (sink_fail_at self.old) (sink_calls self.new)
             ⊎ (sink_room self.old < length (sink_written self.old) + length piece.now)) }
@@ -225,7 +225,8 @@ impl Sink for MemSink {
 
     fn flush(&mut self) -> Result<(), WriteFault>
         ensures log { Flushed result (sink_log self.old) (sink_log self.new) }
-        ensures same { Keeps (Some (sink_written self.old)) (Some (sink_written self.new)) }
+        ensures held { TellsHeld (Some (sink_written self.old)) (Some (sink_written self.new)) (sink_log self.old) (sink_log self.new) }
+        ensures same { sink_written self.new ≡ sink_written self.old }
         // Which calls fail.
         ensures listed { IsErr result ↔ Contains (sink_fail_at self.old) (sink_calls self.new) }
         ensures counted { sink_calls self.new ≡ raised (sink_calls self.old) }

@@ -1,7 +1,6 @@
 //! The readers and writers of std as sources and sinks: each call is on record, an error as a failure.
-ghost use Rattle.std.specs.Prelude.{◌≡◌, ℕ, [], length, drop, OnOk, OnErr};
-ghost use Rattle.std.specs.Io.KnownBytes.{Appends, Keeps};
-ghost use Rattle.rssd_io.specs.Faults.{AppendsFront};
+ghost use Rattle.std.specs.Prelude.{◌≡◌, []};
+ghost use Rattle.rssd_io.specs.Told.{TellsHeld};
 ghost use Rattle.rssd_io.specs.Event.{Gave, Flushed};
 ghost use Rattle.rssd_io.specs.Standard.{source_log, sink_log};
 
@@ -74,8 +73,7 @@ impl<W: Write> StdSink<W> {
 /// Writes the whole piece, and notes what was written. A write of nothing is a failure.
 pub fn write_whole<W: Write>(inner: &mut W, log: &mut Log, piece: &[u8]) -> Result<(), WriteFault>
     ensures log { Gave result piece.now log.old.events log.new.events }
-    ensures ok { OnOk result (Appends (W.contents inner.old) (W.contents inner.new) piece.now) }
-    ensures err { OnErr result (AppendsFront (W.contents inner.old) (W.contents inner.new) piece.now) }
+    ensures held { TellsHeld (W.contents inner.old) (W.contents inner.new) log.old.events log.new.events }
 {
     let mut at = 0;
     while at < piece.len() {
@@ -95,7 +93,7 @@ pub fn write_whole<W: Write>(inner: &mut W, log: &mut Log, piece: &[u8]) -> Resu
 /// Hands on what waits in the writer, and notes whether this failed.
 fn hand_on<W: Write>(inner: &mut W, log: &mut Log) -> Result<(), WriteFault>
     ensures log { Flushed result log.old.events log.new.events }
-    ensures same { Keeps (W.contents inner.old) (W.contents inner.new) }
+    ensures held { TellsHeld (W.contents inner.old) (W.contents inner.new) log.old.events log.new.events }
 {
     match inner.flush() {
         Ok(()) => {

@@ -1,10 +1,10 @@
 //! The rule of sources and sinks: each has a log of what its calls did, a call fails only where the log says so, a failed
 //! take took no byte, and a failed give appended the first bytes of its piece.
-ghost use Rattle.std.specs.Prelude.{◌<◌, ℕ, List, Option, OnOk, OnErr, length};
+ghost use Rattle.std.specs.Prelude.{◌<◌, ℕ, List, Option, length};
 ghost use Rattle.std.specs.Io.{ReadsAtMost};
-ghost use Rattle.std.specs.Io.KnownBytes.{ReadConsumes, Appends, Keeps};
+ghost use Rattle.std.specs.Io.KnownBytes.{ReadConsumes};
 ghost use Rattle.rssd_io.specs.Event.{Event, Adds, Gave, Flushed, took};
-ghost use Rattle.rssd_io.specs.Faults.{AppendsFront};
+ghost use Rattle.rssd_io.specs.Told.{TellsHeld};
 
 /// A source did not give.
 #[derive(Clone, Copy, Debug, PartialEq, Eq)]
@@ -42,11 +42,10 @@ pub trait Sink {
     /// Gives it a piece. After a fault it was given the first bytes of the piece, some, all or none.
     fn give(&mut self, piece: &[u8]) -> Result<(), WriteFault>
         ensures log { Gave result piece.now (log self.old) (log self.new) }
-        ensures ok { OnOk result (Appends (written self.old) (written self.new) piece.now) }
-        ensures err { OnErr result (AppendsFront (written self.old) (written self.new) piece.now) };
+        ensures held { TellsHeld (written self.old) (written self.new) (log self.old) (log self.new) };
 
     /// Hands on what waits of the pieces that were given. After Ok nothing waits.
     fn flush(&mut self) -> Result<(), WriteFault>
         ensures log { Flushed result (log self.old) (log self.new) }
-        ensures same { Keeps (written self.old) (written self.new) };
+        ensures held { TellsHeld (written self.old) (written self.new) (log self.old) (log self.new) };
 }

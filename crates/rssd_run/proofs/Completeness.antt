@@ -1,7 +1,7 @@
 -- Where all that a command took is in its grammar and no call of a source or sink failed, only two statuses are left.
-use Rattle.std.proofs.Common.{◌≡◌, ◌⊎◌, inl, inr, ℕ, List, [], ◌∷◌, ◌++◌, take, true, refl, sym, ap, arith, subst, ◌∙◌, append_assoc, ◌-◌, All, get_or}
-use Rattle.rssd_io.specs.Event.{Event, moved, failed, HasFailed}
-use Rattle.rssd_io.specs.Pieces.{all_given, StopsIn}
+use Rattle.std.proofs.Common.{◌≡◌, ◌⊎◌, inl, inr, ℕ, List, [], ◌∷◌, ◌++◌, take, true, refl, sym, ap, arith, subst, ◌∙◌, append_assoc, ◌-◌, All}
+use Rattle.rssd_io.specs.Event.{Event, moved, failed}
+use Rattle.rssd_io.specs.Pieces.{all_given}
 use Rattle.rssd_io.proofs.Logs.{failed_since}
 use Rattle.rssd_script.proofs.Unique.{one_script}
 use Rattle.rssd_script.specs.Replies.{reply_line}
@@ -17,7 +17,7 @@ use Rattle.rssd_run.specs.MakeRuns.{SaysMake}
 use Rattle.rssd_run.proofs.AuditLaws.{found_again}
 use Rattle.rssd_run.proofs.CallStops.{stopped, unflushed, never_refused}
 use Rattle.rssd_run.specs.Top.{SaysOf, SaysReplay, SaysRun, SaysFormat, SaysUpgrade, IsRunCutOff, IsBadImage, IsNoImage, HasScript, HasImage, HasOldImage, NoneFailed, IsComplete, SaysAudit}
-use Rattle.rssd_run.specs.Top.{HasSoundImage, IsRefused, HasPlayed, PlaysScript, HasUnplayed, SaysPlay, SaysQueue}
+use Rattle.rssd_run.specs.Top.{HasSoundImage, HasPlayed, PlaysScript, HasUnplayed, SaysPlay, SaysQueue}
 use Rattle.rssd_core.specs.DeviceValue.{Numbers}
 use Rattle.rssd_script.specs.declared.lines.Line.{Line}
 use Rattle.rssd_script.specs.declared.lines.Line.TheVariants.{Mount}

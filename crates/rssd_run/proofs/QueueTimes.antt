@@ -1,5 +1,5 @@
 -- In a queue run each command that is put is among the next 1,024 that are served.
-use Rattle.std.proofs.Common.{◌≡◌, inl, inr, ℕ, suc, zero, ◌+◌, ◌<◌, ◌≤◌, List, [], ◌∷◌, ◌++◌, length, take, replicate, refl, sym, ap, ◌∙◌, subst, arith}
+use Rattle.std.proofs.Common.{◌≡◌, inl, inr, ℕ, suc, zero, ◌≤◌, List, [], ◌∷◌, ◌++◌, length, take, replicate, refl, sym, ap, ◌∙◌, subst, arith}
 use Rattle.std.specs.List.{Contains}
 use Rattle.std.proofs.lemmas.Bool.{cases_lt}
 use Rattle.std.proofs.lemmas.List.{take_at, take_all, append_assoc}
@@ -7,7 +7,7 @@ use Rattle.rssd_core.specs.DeviceValue.{Numbers}
 use Rattle.rssd_core.specs.declared.device.FtlError.TheVariants.{DieFault}
 use Rattle.rssd_queue.specs.declared.ask.Tagged.{Tagged}
 use Rattle.rssd_queue.specs.declared.serve.Answer.TheVariants.{Refused}
-use Rattle.rssd_queue.specs.Waiting.{Waiting, accepted}
+use Rattle.rssd_queue.specs.Waiting.{accepted}
 use Rattle.rssd_queue.specs.Runs as queue_runs
 use Rattle.rssd_queue.proofs.InTime.{served_in_time}
 use Rattle.rssd_run.specs.View.{View}

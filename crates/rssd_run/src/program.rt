@@ -3,6 +3,7 @@
 ghost use Rattle.std.specs.Prelude.{◌≡◌, ◌≢◌, IfOk, IfErr, IsErr, map, string_bytes};
 ghost use Rattle.std.specs.IoError.{error_kind};
 ghost use Rattle.rssd_run.specs.declared.status.Status.{Status as How};
+ghost use Rattle.rssd_io.specs.Told.{TellsLeft, TellsHeld};
 ghost use Rattle.rssd_run.specs.Statuses.{GaveLine, bad_words, input, output, number_of};
 ghost use Rattle.rssd_run.specs.Top.{Says};
 
@@ -32,7 +33,11 @@ pub fn main_of<I: Source, T: Source, O: Sink, G: Sink>(
     }) status) }
     ensures no_text { IfErr words (λ e. error_kind e ≢ ErrorKind.OutOfMemory → (result ≡ 2) × GaveLine (output (O.log out.old) (O.log out.new)) bad_words) }
     ensures memory { IfErr words (λ e. error_kind e ≡ ErrorKind.OutOfMemory → (result ≡ 7) × (out.new ≡ out.old)) }
+    ensures image_left { TellsLeft (I.left image.old) (I.left image.new) (I.log image.old) (I.log image.new) }
+    ensures script_left { TellsLeft (T.left script.old) (T.left script.new) (T.log script.old) (T.log script.new) }
     ensures untouched { IsErr words → (image.new ≡ image.old) × (script.new ≡ script.old) × (image_out.new ≡ image_out.old) }
+    ensures out_held { TellsHeld (O.written out.old) (O.written out.new) (O.log out.old) (O.log out.new) }
+    ensures image_out_held { TellsHeld (G.written image_out.old) (G.written image_out.new) (G.log image_out.old) (G.log image_out.new) }
 {
     match words {
         Ok(words) => rssd(alloc, &words, image, script, out, image_out),

@@ -1,5 +1,6 @@
 //! The lines of refusal: what `out` is told before a status that refuses words, a script or an image.
 ghost use Rattle.std.specs.Prelude.{◌≡◌};
+ghost use Rattle.rssd_io.specs.Told.{TellsHeld};
 ghost use Rattle.rssd_run.specs.Statuses.{GaveLine, output, RefusesSo, RefusesImageSo, bad_image, bad_line, bad_words};
 
 use crate::status::Status;
@@ -23,7 +24,8 @@ fn bad_line(line: u32) -> ArrayVec<u8, 24>
 
 /// Gives a line of refusal to `out`, and has it hand the line on. A fault there changes nothing of the answer.
 pub fn refuse<O: Sink>(out: &mut O, line: &[u8])
-    ensures { GaveLine (output (O.log out.old) (O.log out.new)) line.now }
+    ensures line { GaveLine (output (O.log out.old) (O.log out.new)) line.now }
+    ensures held { TellsHeld (O.written out.old) (O.written out.new) (O.log out.old) (O.log out.new) }
 {
     let _ = give_last(out, line);
 }
@@ -32,6 +34,7 @@ pub fn refuse<O: Sink>(out: &mut O, line: &[u8])
 pub fn refuse_words<O: Sink>(out: &mut O) -> Status
     ensures status { result ≡ Status.BadWords }
     ensures line { GaveLine (output (O.log out.old) (O.log out.new)) bad_words }
+    ensures held { TellsHeld (O.written out.old) (O.written out.new) (O.log out.old) (O.log out.new) }
 {
     refuse(out, b"bad words\n");
     Status::BadWords
@@ -39,7 +42,8 @@ pub fn refuse_words<O: Sink>(out: &mut O) -> Status
 
 /// Refuses a script.
 pub fn refuse_script<O: Sink>(out: &mut O, why: ScriptError) -> Status
-    ensures { RefusesSo why result (output (O.log out.old) (O.log out.new)) }
+    ensures says { RefusesSo why result (output (O.log out.old) (O.log out.new)) }
+    ensures held { TellsHeld (O.written out.old) (O.written out.new) (O.log out.old) (O.log out.new) }
 {
     match why {
         ScriptError::TooLong => {
@@ -71,7 +75,8 @@ pub fn image_line(why: ImageError) -> &'static [u8]
 
 /// Refuses an image.
 pub fn refuse_image<O: Sink>(out: &mut O, why: ImageError) -> Status
-    ensures { RefusesImageSo why result (output (O.log out.old) (O.log out.new)) }
+    ensures says { RefusesImageSo why result (output (O.log out.old) (O.log out.new)) }
+    ensures held { TellsHeld (O.written out.old) (O.written out.new) (O.log out.old) (O.log out.new) }
 {
     match why {
         ImageError::OutOfMemory => Status::OutOfMemory,

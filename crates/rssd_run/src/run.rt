@@ -3,6 +3,7 @@ ghost use Rattle.std.specs.Prelude.{◌≡◌, [], OnOk, OnErr, IfSome, IfNone};
 ghost use Rattle.std.specs.List.{All};
 ghost use Rattle.rssd_core.specs.DeviceValue.{Numbers};
 ghost use Rattle.rssd_io.specs.Event.{Grows, HasFailed};
+ghost use Rattle.rssd_io.specs.Told.{TellsHeld};
 ghost use Rattle.rssd_run.specs.Exchanges.{AnswersSession, AnswersAll, AnswersFront};
 ghost use Rattle.rssd_run.specs.Run.{RunsSession, CutsOffSession};
 ghost use Rattle.rssd_run.specs.Serves.{IsQueueOf, ServesSession, is_running};
@@ -83,6 +84,7 @@ pub fn run_lines<S: Stepping, O: Sink>(
     ensures grew { Grows (O.log out.old) (O.log out.new) }
     ensures fault { OnErr result (HasFailed (O.log out.old) (O.log out.new)) }
     ensures keeps { (d : Numbers) → HasNumbers d (S.session session.old).holding → KeepsSession d (S.session session.old) (S.session session.new) }
+    ensures held { TellsHeld (O.written out.old) (O.written out.new) (O.log out.old) (O.log out.new) }
 {
     let mut reply = Reply::Off;
     let mut text = ReplyText::new();

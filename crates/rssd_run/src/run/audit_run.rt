@@ -3,6 +3,7 @@ ghost use Rattle.std.specs.Prelude.{◌≡◌, ◌⊎◌, ℕ, ◌+◌, ◌≤�
 ghost use Rattle.cell_die.specs.DieState.{DieState};
 ghost use Rattle.die_image.specs.declared.head.ImageHead.{ImageHead as Head};
 ghost use Rattle.die_image.specs.Image.{die_bytes, is_within_limits, AreCells};
+ghost use Rattle.rssd_io.specs.Told.{TellsLeft, TellsHeld};
 ghost use Rattle.page_codec.specs.Sound.{IsSound};
 ghost use Rattle.image_audit.specs.Held.{array_told};
 ghost use Rattle.image_audit.specs.Images.{geometry_of};
@@ -114,6 +115,7 @@ fn line_of_sector(held: &Held) -> ReplyText
 fn tell<O: Sink>(out: &mut O, held: &[Held]) -> Result<(), WriteFault>
     ensures done { OnOk result (HandsOn (sound_lines (map told_of held.now)) (O.log out.old) (O.log out.new)) }
     ensures stops { OnErr result (StopsIn (sound_lines (map told_of held.now)) (O.log out.old) (O.log out.new)) }
+    ensures held { TellsHeld (O.written out.old) (O.written out.new) (O.log out.old) (O.log out.new) }
 {
     out.give(b"sound\n")?;
     for one in held {
@@ -167,6 +169,8 @@ pub fn audit_image(
 pub fn answer_audit<I: Source, O: Sink>(alloc: Global, image: &mut I, out: &mut O) -> Status
     ensures says { SaysAudit (input (I.log image.old) (I.log image.new)) (output (O.log out.old) (O.log out.new)) result }
     ensures image_bounded { TakesImage false (I.log image.old) (I.log image.new) }
+    ensures image_left { TellsLeft (I.left image.old) (I.left image.new) (I.log image.old) (I.log image.new) }
+    ensures held { TellsHeld (O.written out.old) (O.written out.new) (O.log out.old) (O.log out.new) }
 {
     let (head, cells) = match read_image(ImageReader::new(alloc), image) {
         Ok(read) => read,

@@ -5,6 +5,7 @@ ghost use Rattle.die_image.specs.declared.head.ImageHead.{ImageHead as Head};
 ghost use Rattle.die_image.specs.Image.{image, wanted, AreCells};
 ghost use Rattle.rssd_io.specs.Event.{bytes_of, since};
 ghost use Rattle.rssd_io.specs.Pieces.{HandsOn, StopsIn, all_given};
+ghost use Rattle.rssd_io.specs.Told.{TellsLeft, TellsHeld};
 ghost use Rattle.rssd_run.specs.GiveImage.{image_pieces};
 ghost use Rattle.rssd_run.specs.ReadImage.{ReadsImage, RefusesImage, TakesImage, IsFed, HasAll};
 
@@ -37,6 +38,7 @@ fn feed_wanted<I: Source>(reader: &mut ImageReader, image: &mut I) -> Result<(),
     ensures all { OnOk result (HasAll (since (I.log image.old) (I.log image.new)) reader.new) }
     ensures refused { IfErr result (RefusesImage reader.old.is_old (I.log image.old) (I.log image.new)) }
     ensures bounded { TakesImage reader.old.is_old (I.log image.old) (I.log image.new) }
+    ensures left { TellsLeft (I.left image.old) (I.left image.new) (I.log image.old) (I.log image.new) }
 {
     let mut piece = [0u8; PIECE];
     let mut room = next_count(reader);
@@ -68,6 +70,7 @@ pub fn read_image<I: Source>(
     ensures cells { IfOk result (λ read. AreCells read.0 read.1.items) }
     ensures refused { IfErr result (RefusesImage reader.is_old (I.log image.old) (I.log image.new)) }
     ensures bounded { TakesImage reader.is_old (I.log image.old) (I.log image.new) }
+    ensures left { TellsLeft (I.left image.old) (I.left image.new) (I.log image.old) (I.log image.new) }
 {
     feed_wanted(&mut reader, image)?;
     match reader.end() {
@@ -85,6 +88,7 @@ pub fn give_image<G: Sink>(
 ) -> Result<(), WriteFault>
     ensures done { OnOk result (HandsOn (image_pieces head.now cells.now) (G.log image_out.old) (G.log image_out.new)) }
     ensures front { OnErr result (StopsIn (image_pieces head.now cells.now) (G.log image_out.old) (G.log image_out.new)) }
+    ensures held { TellsHeld (G.written image_out.old) (G.written image_out.new) (G.log image_out.old) (G.log image_out.new) }
 {
     image_out.give(&encode_head(head))?;
     let page_bytes = head.scheme.page_bytes() + 16 * head.scheme.generations();

@@ -8,6 +8,7 @@ ghost use Rattle.die_image.specs.Image.{die_bytes, image, image_read, is_within_
 ghost use Rattle.mem_die.specs.MemState.{mem_state, IsMade};
 ghost use Rattle.rssd_io.specs.Event.{Event, HasFailed};
 ghost use Rattle.rssd_script.specs.declared.lines.Line.{Line as Spelled};
+ghost use Rattle.rssd_io.specs.Told.{TellsHeld};
 ghost use Rattle.rssd_run.specs.Calm.{is_arming, IsCalm};
 ghost use Rattle.rssd_run.specs.DieRuns.{RunsOn};
 ghost use Rattle.rssd_run.specs.Headline.{AllKeepHeadline, ChargeNeverFalls};
@@ -73,6 +74,7 @@ pub fn run_image<O: Sink>(
     ensures fault { IsErrOf result RunError.Sink → HasFailed (O.log out.old) (O.log out.new) }
     ensures no_spare { IsErrOf result RunError.NoSpare → IsFull head.now cells.items × (out.new ≡ out.old) }
     ensures memory { IsErrOf result RunError.OutOfMemory → out.new ≡ out.old }
+    ensures held { TellsHeld (O.written out.old) (O.written out.new) (O.log out.old) (O.log out.new) }
 {
     let Ok(die) = die_of(alloc, head, cells) else {
         return Err(RunError::OutOfMemory);

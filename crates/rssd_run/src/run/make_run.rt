@@ -4,6 +4,7 @@ ghost use Rattle.die_image.specs.declared.head.ImageHead.{ImageHead as Head};
 ghost use Rattle.die_image.specs.Image.{is_within_limits, shape_of};
 ghost use Rattle.mem_die.specs.MemState.{mem_state, IsNew};
 ghost use Rattle.rssd_io.specs.Pieces.{Gives, StopsAt};
+ghost use Rattle.rssd_io.specs.Told.{TellsHeld};
 ghost use Rattle.rssd_run.specs.Calm.{IsCalm};
 ghost use Rattle.rssd_run.specs.MakeRuns.{Makes, TellsMade, SaysMake};
 ghost use Rattle.rssd_run.specs.Statuses.{output};
@@ -29,6 +30,7 @@ use striped::Scheme;
 fn tell<O: Sink>(out: &mut O, stat: &[u8], held: &[u8]) -> Result<(), WriteFault>
     ensures done { OnOk result (Gives (stat.now ∷ held.now ∷ []) (O.log out.old) (O.log out.new)) }
     ensures stops { OnErr result (StopsAt (stat.now ∷ held.now ∷ []) (O.log out.old) (O.log out.new)) }
+    ensures held { TellsHeld (O.written out.old) (O.written out.new) (O.log out.old) (O.log out.new) }
 {
     out.give(stat)?;
     out.give(held)
@@ -50,6 +52,7 @@ fn make_with<C: Scheme + Drop, F: PowerDevice<MemDie, C>, O: Sink>(
     ensures front { IsErrOf result RunError.Sink → TellsMade head.now seeded.seed seeded.count (λ lines. StopsAt lines (O.log out.old) (O.log out.new)) }
     ensures spare { IsErrOf result RunError.NoSpare → ⊥ }
     ensures memory { IsErrOf result RunError.OutOfMemory → out.new ≡ out.old }
+    ensures held { TellsHeld (O.written out.old) (O.written out.new) (O.log out.old) (O.log out.new) }
 {
     let mut session: Session<MemDie, C, F> = start(alloc, head, scheme, die)?;
     let sector_bytes = head.scheme.sector_bytes();
@@ -85,6 +88,7 @@ fn make_made<C: Scheme + Drop, O: Sink>(
     ensures front { IsErrOf result RunError.Sink → TellsMade head.now seeded.seed seeded.count (λ lines. StopsAt lines (O.log out.old) (O.log out.new)) }
     ensures spare { IsErrOf result RunError.NoSpare → ⊥ }
     ensures memory { IsErrOf result RunError.OutOfMemory → out.new ≡ out.old }
+    ensures held { TellsHeld (O.written out.old) (O.written out.new) (O.log out.old) (O.log out.new) }
 {
     match made {
         Ok(scheme) => make_with::<C, Ftl<MemDie, C>, O>(alloc, head, seeded, scheme, die, out),
@@ -110,6 +114,7 @@ pub fn make_run<O: Sink>(
     ensures front { IsErrOf result RunError.Sink → TellsMade head.now seeded.seed seeded.count (λ lines. StopsAt lines (O.log out.old) (O.log out.new)) }
     ensures spare { IsErrOf result RunError.NoSpare → ⊥ }
     ensures memory { IsErrOf result RunError.OutOfMemory → out.new ≡ out.old }
+    ensures held { TellsHeld (O.written out.old) (O.written out.new) (O.log out.old) (O.log out.new) }
 {
     let Ok(die) = blank_die(alloc, head) else {
         return Err(RunError::OutOfMemory);
@@ -128,9 +133,11 @@ pub fn make_run<O: Sink>(
 }
 
 /// Answers `make`.
+#[tactic(auto, using(rssd_io::proofs::Told::held_more))]
 pub fn answer_make<O: Sink>(alloc: Global, head: &ImageHead, seeded: Seeded, out: &mut O) -> Status
     requires { is_within_limits head.now ≡ true }
-    ensures { SaysMake head.now seeded.seed seeded.count (output (O.log out.old) (O.log out.new)) result }
+    ensures says { SaysMake head.now seeded.seed seeded.count (output (O.log out.old) (O.log out.new)) result }
+    ensures held { TellsHeld (O.written out.old) (O.written out.new) (O.log out.old) (O.log out.new) }
 {
     match make_run(alloc, head, seeded, out) {
         Ok(()) => match out.flush() {

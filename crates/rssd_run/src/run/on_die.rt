@@ -6,6 +6,7 @@ ghost use Rattle.mem_die.specs.Limits.{IsWithinLimits as FitsDie};
 ghost use Rattle.mem_die.specs.MemState.{mem_state};
 ghost use Rattle.rssd_core.specs.Mount.{EveryBlockLive};
 ghost use Rattle.rssd_io.specs.Event.{HasFailed};
+ghost use Rattle.rssd_io.specs.Told.{TellsHeld};
 ghost use Rattle.rssd_run.specs.DieRuns.{IsReady, StartsOn, RunsOn, RunsFrontOn};
 ghost use Rattle.rssd_run.specs.Heads.{numbers_named};
 ghost use Rattle.schemes.specs.Schemes.{meaning_named};
@@ -94,6 +95,7 @@ fn run_with<C: Scheme + Drop, F: PowerDevice<MemDie, C>, O: Sink>(
     ensures fault { IsErrOf result RunError.Sink → HasFailed (O.log out.old) (O.log out.new) }
     ensures no_spare { IsErrOf result RunError.NoSpare → EveryBlockLive (numbers_named head.now).geometry (mem_state die) × (out.new ≡ out.old) }
     ensures memory { IsErrOf result RunError.OutOfMemory → out.new ≡ out.old }
+    ensures held { TellsHeld (O.written out.old) (O.written out.new) (O.log out.old) (O.log out.new) }
 {
     let mut session: Session<MemDie, C, F> = start(alloc, head, scheme, die)?;
     match run_lines(alloc, &mut session, lines, out) {
@@ -120,6 +122,7 @@ fn run_made<C: Scheme + Drop, O: Sink>(
     ensures fault { IsErrOf result RunError.Sink → HasFailed (O.log out.old) (O.log out.new) }
     ensures no_spare { IsErrOf result RunError.NoSpare → EveryBlockLive (numbers_named head.now).geometry (mem_state die) × (out.new ≡ out.old) }
     ensures memory { IsErrOf result RunError.OutOfMemory → out.new ≡ out.old }
+    ensures held { TellsHeld (O.written out.old) (O.written out.new) (O.log out.old) (O.log out.new) }
 {
     match made {
         Ok(scheme) => run_with::<C, Ftl<MemDie, C>, O>(alloc, head, scheme, die, lines, out),
@@ -149,6 +152,7 @@ pub fn run_on<O: Sink>(
     ensures fault { IsErrOf result RunError.Sink → HasFailed (O.log out.old) (O.log out.new) }
     ensures no_spare { IsErrOf result RunError.NoSpare → EveryBlockLive (numbers_named head.now).geometry (mem_state die) × (out.new ≡ out.old) }
     ensures memory { IsErrOf result RunError.OutOfMemory → out.new ≡ out.old }
+    ensures held { TellsHeld (O.written out.old) (O.written out.new) (O.log out.old) (O.log out.new) }
 {
     match head.scheme {
         SchemeName::Plain16 => run_made(alloc, head, plains(alloc, 16), die, lines, out),

@@ -7,6 +7,7 @@ ghost use Rattle.mem_die.specs.Limits.{IsWithinLimits as FitsDie};
 ghost use Rattle.mem_die.specs.MemState.{mem_state, IsNew};
 ghost use Rattle.rssd_core.specs.Mount.{MountFails};
 ghost use Rattle.rssd_io.specs.Event.{Event as Act};
+ghost use Rattle.rssd_io.specs.Told.{TellsLeft, TellsHeld};
 ghost use Rattle.rssd_script.specs.declared.lines.Line.{Line as Spelled};
 ghost use Rattle.rssd_words.specs.Commands.{IsReserve};
 ghost use Rattle.rssd_run.specs.Heads.{numbers_named};
@@ -114,6 +115,7 @@ fn read_played<T: Source>(alloc: Global, script: &mut T) -> Result<Vec<Line>, Re
     ensures played { IfOk result (λ lines. All IsPlayed lines.items) }
     ensures refused { IfErr result (RefusesPlayed (T.log script.old) (T.log script.new)) }
     ensures bounded { TakesScript (T.log script.old) (T.log script.new) }
+    ensures left { TellsLeft (T.left script.old) (T.left script.new) (T.log script.old) (T.log script.new) }
 {
     let lines = read_script(alloc, script)?;
     match first_unplayed(&lines) {
@@ -123,6 +125,7 @@ fn read_played<T: Source>(alloc: Global, script: &mut T) -> Result<Vec<Line>, Re
 }
 
 /// Plays lines on a blank die, no mount of which fails, and has `out` hand the replies on.
+#[tactic(auto, using(rssd_io::proofs::Told::held_more))]
 fn answer_on<D: Die + Drop, O: Sink>(
     alloc: Global,
     head: &ImageHead,
@@ -134,7 +137,8 @@ fn answer_on<D: Die + Drop, O: Sink>(
     requires blank { IsBlankDie (shape_of head.now) (D.state die) }
     requires mounts { (new : D) → MountFails (numbers_named head.now) (D.state die) (D.state new) → ⊥ }
     requires played { All IsPlayed lines.now }
-    ensures { EndsPlay (IsPlayStart head.now (D.state die)) (LeavesDie D.state) (numbers_named head.now) lines.now (output (O.log out.old) (O.log out.new)) result }
+    ensures ends { EndsPlay (IsPlayStart head.now (D.state die)) (LeavesDie D.state) (numbers_named head.now) lines.now (output (O.log out.old) (O.log out.new)) result }
+    ensures held { TellsHeld (O.written out.old) (O.written out.new) (O.log out.old) (O.log out.new) }
 {
     match play_on(alloc, head, die, lines, out) {
         Ok(()) => match out.flush() {
@@ -159,6 +163,8 @@ pub fn answer_worn<T: Source, O: Sink>(
     requires reserve { IsReserve head.now reserve }
     ensures says { SaysWorn head.now reserve bad (input (T.log script.old) (T.log script.new)) (output (O.log out.old) (O.log out.new)) result }
     ensures script_bounded { TakesScript (T.log script.old) (T.log script.new) }
+    ensures script_left { TellsLeft (T.left script.old) (T.left script.new) (T.log script.old) (T.log script.new) }
+    ensures held { TellsHeld (O.written out.old) (O.written out.new) (O.log out.old) (O.log out.new) }
 {
     let lines = match read_played(alloc, script) {
         Ok(lines) => lines,
@@ -182,6 +188,8 @@ pub fn answer_pair<T: Source, O: Sink>(
     requires even { head.now.blocks % 2 ≡ 0 }
     ensures says { SaysPair head.now (input (T.log script.old) (T.log script.new)) (output (O.log out.old) (O.log out.new)) result }
     ensures script_bounded { TakesScript (T.log script.old) (T.log script.new) }
+    ensures script_left { TellsLeft (T.left script.old) (T.left script.new) (T.log script.old) (T.log script.new) }
+    ensures held { TellsHeld (O.written out.old) (O.written out.new) (O.log out.old) (O.log out.new) }
 {
     let lines = match read_played(alloc, script) {
         Ok(lines) => lines,

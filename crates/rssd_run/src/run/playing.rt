@@ -4,6 +4,7 @@ ghost use Rattle.cell_die.specs.Calls.{Kept};
 ghost use Rattle.die_image.specs.Image.{is_within_limits, shape_of};
 ghost use Rattle.rssd_core.specs.DeviceValue.{Numbers};
 ghost use Rattle.rssd_core.specs.Mount.{Mounts, MountFails};
+ghost use Rattle.rssd_io.specs.Told.{TellsHeld};
 ghost use Rattle.rssd_run.specs.Headline.{ChargeNeverFalls};
 ghost use Rattle.rssd_run.specs.Heads.{numbers_named};
 ghost use Rattle.rssd_run.specs.Played.{IsPlayed, Plays, PlaysQuiet};
@@ -57,6 +58,7 @@ fn play_lines<D: Die + Drop, C: Scheme + Drop, F: Device<D, C>, O: Sink>(
     requires few_bytes { (F.device ftl.old).numbers.geometry.sector_bytes ≤ 512 }
     ensures ok { OnOk result (PlaysLines (LeavesDie D.state) (F.device ftl.old) lines.now (O.log out.old) (O.log out.new)) }
     ensures err { OnErr result (CutsOffPlay (LeavesDie D.state) (F.device ftl.old) lines.now (O.log out.old) (O.log out.new)) }
+    ensures held { TellsHeld (O.written out.old) (O.written out.new) (O.log out.old) (O.log out.new) }
 {
     for line in lines {
         let reply = play_one(ftl, line);
@@ -109,6 +111,7 @@ fn play_with<D: Die + Drop, C: Scheme + Drop, F: Device<D, C>, O: Sink>(
     ensures front { IsErrOf result PlayError.Sink
         → PlaysFrontFrom (IsPlayStart head.now (D.state die)) (LeavesDie D.state) (numbers_named head.now) lines.now (O.log out.old) (O.log out.new) }
     ensures memory { IsErrOf result PlayError.OutOfMemory → out.new ≡ out.old }
+    ensures held { TellsHeld (O.written out.old) (O.written out.new) (O.log out.old) (O.log out.new) }
 {
     let Ok(mut ftl) = mount_blank::<D, C, F>(alloc, head, scheme, die) else {
         return Err(PlayError::OutOfMemory);
@@ -137,6 +140,7 @@ fn play_made<D: Die + Drop, C: Scheme + Drop, O: Sink>(
     ensures front { IsErrOf result PlayError.Sink
         → PlaysFrontFrom (IsPlayStart head.now (D.state die)) (LeavesDie D.state) (numbers_named head.now) lines.now (O.log out.old) (O.log out.new) }
     ensures memory { IsErrOf result PlayError.OutOfMemory → out.new ≡ out.old }
+    ensures held { TellsHeld (O.written out.old) (O.written out.new) (O.log out.old) (O.log out.new) }
 {
     match made {
         Ok(scheme) => play_with::<D, C, Ftl<D, C>, O>(alloc, head, scheme, die, lines, out),
@@ -166,6 +170,7 @@ pub fn play_on<D: Die + Drop, O: Sink>(
     ensures front { IsErrOf result PlayError.Sink
         → PlaysFrontFrom (IsPlayStart head.now (D.state die)) (LeavesDie D.state) (numbers_named head.now) lines.now (O.log out.old) (O.log out.new) }
     ensures memory { IsErrOf result PlayError.OutOfMemory → out.new ≡ out.old }
+    ensures held { TellsHeld (O.written out.old) (O.written out.new) (O.log out.old) (O.log out.new) }
 {
     match head.scheme {
         SchemeName::Plain16 => play_made(alloc, head, plains(alloc, 16), die, lines, out),

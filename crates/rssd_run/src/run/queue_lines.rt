@@ -8,6 +8,7 @@ ghost use Rattle.rssd_queue.specs.declared.ask.Ask.{Ask as Asked};
 ghost use Rattle.rssd_queue.specs.Waiting.{Waiting, Accepts, waits};
 ghost use Rattle.rssd_script.specs.declared.lines.Line.{Line as Spelled};
 ghost use Rattle.rssd_script.specs.Replies.{tagged_line};
+ghost use Rattle.rssd_io.specs.Told.{TellsHeld};
 ghost use Rattle.rssd_run.specs.Shows.{CanStep, HasNumbers};
 ghost use Rattle.rssd_run.specs.Serves.{IsQueueOf, is_running, ask_of as asked};
 ghost use Rattle.rssd_run.specs.QueueActs.{place, IsServeDue, IsServeAllDue, IsAtOnceDue, IsUnfit, TookOne, ActsSession, CutsOffActs};
@@ -21,7 +22,8 @@ use std::alloc::Global;
 
 /// Gives a reply with the number of its line to `out`, in one piece.
 fn tell<O: Sink>(out: &mut O, tag: u32, reply: &Reply) -> Result<(), WriteFault>
-    ensures { Gave result (tagged_line tag reply.now) (O.log out.old) (O.log out.new) }
+    ensures given { Gave result (tagged_line tag reply.now) (O.log out.old) (O.log out.new) }
+    ensures held { TellsHeld (O.written out.old) (O.written out.new) (O.log out.old) (O.log out.new) }
 {
     out.give(print_tagged(tag, reply).as_slice())
 }
@@ -41,6 +43,7 @@ fn serve_next<S: Serving, O: Sink>(
         → IsServeDue (is_running (S.session session.old).holding) queue.old lines
         → CutsOffActs d (place lines tag queue.old) (S.session session.old) (S.session session.new) (O.log out.old) (O.log out.new)) }
     ensures one { IfOk result (λ one. TookOne one queue.old queue.new) }
+    ensures held { TellsHeld (O.written out.old) (O.written out.new) (O.log out.old) (O.log out.new) }
 {
     let Some((tag, reply)) = session.serve(queue) else {
         return Ok(false);
@@ -63,6 +66,7 @@ fn serve_all<S: Serving, O: Sink>(
     ensures err { OnErr result ((d : Numbers) → HasNumbers d (S.session session.old).holding → (lines : List Spelled) (tag : ℕ) → IsServeAllDue lines
         → CutsOffActs d (place lines tag queue.old) (S.session session.old) (S.session session.new) (O.log out.old) (O.log out.new)) }
     ensures none_waits { OnOk result (queue.new.commands ≡ []) }
+    ensures held { TellsHeld (O.written out.old) (O.written out.new) (O.log out.old) (O.log out.new) }
 {
     while serve_next(session, queue, out)? {}
     Ok(())
@@ -83,6 +87,7 @@ fn make_room<S: Serving, O: Sink>(
         → CutsOffActs d (place (line ∷ lines) tag queue.old) (S.session session.old) (S.session session.new) (O.log out.old) (O.log out.new)) }
     ensures room { OnOk result (is_running (S.session session.new).holding ≡ true → length queue.new.commands ≢ 32) }
     ensures tags { OnOk result ((n : ℕ) → waits queue.old.commands n ≡ false → waits queue.new.commands n ≡ false) }
+    ensures held { TellsHeld (O.written out.old) (O.written out.new) (O.log out.old) (O.log out.new) }
 {
     if session.is_on() && queue.is_full() {
         serve_next(session, queue, out)?;
@@ -117,6 +122,7 @@ fn answer_at_once<S: Serving, O: Sink>(
     ensures err { OnErr result ((d : Numbers) → HasNumbers d (S.session session.old).holding → (lines : List Spelled) (queue : Waiting)
         → IsAtOnceDue (is_running (S.session session.old).holding) queue line.now
         → CutsOffActs d (place (line.now ∷ lines) tag queue) (S.session session.old) (S.session session.new) (O.log out.old) (O.log out.new)) }
+    ensures held { TellsHeld (O.written out.old) (O.written out.new) (O.log out.old) (O.log out.new) }
 {
     let mut reply = Reply::Off;
     session.step(alloc, line, &mut reply);
@@ -144,6 +150,7 @@ fn line_waits<S: Serving, O: Sink>(
     ensures err { OnErr result ((d : Numbers) → HasNumbers d (S.session session.old).holding → (lines : List Spelled)
         → CutsOffActs d (place (line.now ∷ lines) tag queue.old) (S.session session.old) (S.session session.new) (O.log out.old) (O.log out.new)) }
     ensures tags { OnOk result ((n : ℕ) → tag + 1 ≤ n → waits queue.new.commands n ≡ false) }
+    ensures held { TellsHeld (O.written out.old) (O.written out.new) (O.log out.old) (O.log out.new) }
 {
     match ask_of(line) {
         Some(ask) => {
@@ -176,6 +183,7 @@ fn take_line<S: Serving, O: Sink>(
     ensures err { OnErr result ((d : Numbers) → HasNumbers d (S.session session.old).holding → (lines : List Spelled)
         → CutsOffActs d (place (line.now ∷ lines) tag queue.old) (S.session session.old) (S.session session.new) (O.log out.old) (O.log out.new)) }
     ensures tags { OnOk result ((n : ℕ) → tag + 1 ≤ n → waits queue.new.commands n ≡ false) }
+    ensures held { TellsHeld (O.written out.old) (O.written out.new) (O.log out.old) (O.log out.new) }
 {
     if line_waits(session, queue, tag, line, out)? {
         return Ok(());
@@ -200,6 +208,7 @@ pub fn queue_lines<S: Serving, O: Sink>(
     ensures err { OnErr result ((d : Numbers) → HasNumbers d (S.session session.old).holding
         → CutsOffActs d (place lines.now 1 queue.old) (S.session session.old) (S.session session.new) (O.log out.old) (O.log out.new)) }
     ensures done { OnOk result (queue.new.commands ≡ []) }
+    ensures held { TellsHeld (O.written out.old) (O.written out.new) (O.log out.old) (O.log out.new) }
 {
     let mut tag = 0;
     for line in lines {

@@ -6,6 +6,7 @@ ghost use Rattle.die_image.specs.Image.{is_within_limits, shape_of};
 ghost use Rattle.die_image.specs.Schemes.{row_of};
 ghost use Rattle.mem_die.specs.MemState.{mem_state, IsNew};
 ghost use Rattle.rssd_io.specs.Event.{Event};
+ghost use Rattle.rssd_io.specs.Told.{TellsLeft, TellsHeld};
 ghost use Rattle.rssd_script.specs.declared.lines.Line.{Line as Spelled};
 ghost use Rattle.rssd_run.specs.Headline.{AllKeepHeadline, ChargeNeverFalls};
 ghost use Rattle.rssd_run.specs.Heads.{numbers_named, zero_sectors};
@@ -55,6 +56,7 @@ fn queue_with<C: Scheme + Drop, F: PowerDevice<MemDie, C>, O: Sink>(
     ensures front { IsErrOf result RunError.Sink → QueuesFront head.now lines.now (O.log out.old) (O.log out.new) }
     ensures spare { IsErrOf result RunError.NoSpare → ⊥ }
     ensures memory { IsErrOf result RunError.OutOfMemory → out.new ≡ out.old }
+    ensures held { TellsHeld (O.written out.old) (O.written out.new) (O.log out.old) (O.log out.new) }
 {
     let mut session: Session<MemDie, C, F> = start(alloc, head, scheme, die)?;
     let Ok(mut queue) = Queue::new(alloc, head.sectors, head.scheme.sector_bytes()) else {
@@ -84,6 +86,7 @@ fn queue_made<C: Scheme + Drop, O: Sink>(
     ensures front { IsErrOf result RunError.Sink → QueuesFront head.now lines.now (O.log out.old) (O.log out.new) }
     ensures spare { IsErrOf result RunError.NoSpare → ⊥ }
     ensures memory { IsErrOf result RunError.OutOfMemory → out.new ≡ out.old }
+    ensures held { TellsHeld (O.written out.old) (O.written out.new) (O.log out.old) (O.log out.new) }
 {
     match made {
         Ok(scheme) => queue_with::<C, Ftl<MemDie, C>, O>(alloc, head, scheme, die, lines, out),
@@ -111,6 +114,7 @@ fn queue_run<O: Sink>(
     ensures front { IsErrOf result RunError.Sink → QueuesFront head.now lines.now (O.log out.old) (O.log out.new) }
     ensures spare { IsErrOf result RunError.NoSpare → ⊥ }
     ensures memory { IsErrOf result RunError.OutOfMemory → out.new ≡ out.old }
+    ensures held { TellsHeld (O.written out.old) (O.written out.new) (O.log out.old) (O.log out.new) }
 {
     let Ok(die) = blank_die(alloc, head) else {
         return Err(RunError::OutOfMemory);
@@ -129,6 +133,7 @@ fn queue_run<O: Sink>(
 }
 
 /// Answers `queue`.
+#[tactic(auto, using(rssd_io::proofs::Told::held_more))]
 pub fn answer_queue<T: Source, O: Sink>(
     alloc: Global,
     head: &ImageHead,
@@ -138,6 +143,8 @@ pub fn answer_queue<T: Source, O: Sink>(
     requires { is_within_limits head.now ≡ true }
     ensures says { SaysQueue head.now (input (T.log script.old) (T.log script.new)) (output (O.log out.old) (O.log out.new)) result }
     ensures script_bounded { TakesScript (T.log script.old) (T.log script.new) }
+    ensures script_left { TellsLeft (T.left script.old) (T.left script.new) (T.log script.old) (T.log script.new) }
+    ensures held { TellsHeld (O.written out.old) (O.written out.new) (O.log out.old) (O.log out.new) }
 {
     let lines = match read_script(alloc, script) {
         Ok(lines) => lines,

@@ -2,6 +2,7 @@
 //! beside its lines.
 ghost use Rattle.std.specs.Prelude.{[], IfOk, OnOk, IfErr};
 ghost use Rattle.std.specs.List.{All};
+ghost use Rattle.rssd_io.specs.Told.{TellsLeft};
 ghost use Rattle.rssd_script.specs.Readers.{HasRead};
 ghost use Rattle.rssd_run.specs.ReadScript.{ReadsAll, RefusesRead, TakesScript, HasReadAll};
 ghost use Rattle.rssd_run.specs.Shows.{CanStep};
@@ -30,6 +31,7 @@ fn feed_all<T: Source>(reader: &mut ScriptReader, script: &mut T) -> Result<(), 
     ensures read { OnOk result (HasReadAll (T.log script.old) (T.log script.new) reader.new) }
     ensures refused { IfErr result (RefusesRead (T.log script.old) (T.log script.new)) }
     ensures bounded { TakesScript (T.log script.old) (T.log script.new) }
+    ensures left { TellsLeft (T.left script.old) (T.left script.new) (T.log script.old) (T.log script.new) }
 {
     let mut piece = [0u8; PIECE];
     let mut room = MOST_BYTES + 1;
@@ -59,6 +61,7 @@ pub fn read_script<T: Source>(alloc: Global, script: &mut T) -> Result<Vec<Line>
     ensures can_step { IfOk result (λ lines. All CanStep lines.items) }
     ensures refused { IfErr result (RefusesRead (T.log script.old) (T.log script.new)) }
     ensures bounded { TakesScript (T.log script.old) (T.log script.new) }
+    ensures left { TellsLeft (T.left script.old) (T.left script.new) (T.log script.old) (T.log script.new) }
 {
     let mut reader = ScriptReader::new(alloc);
     feed_all(&mut reader, script)?;

@@ -3,6 +3,7 @@
 ghost use Rattle.std.specs.Prelude.{◌≡◌, ℕ, List, map, string_bytes, true, false};
 ghost use Rattle.die_image.specs.Image.{is_within_limits};
 ghost use Rattle.rssd_run.specs.declared.status.Status.{Status as How};
+ghost use Rattle.rssd_io.specs.Told.{TellsLeft, TellsHeld};
 ghost use Rattle.rssd_run.specs.ReadScript.{TakesScript};
 ghost use Rattle.rssd_run.specs.ReadImage.{TakesImage};
 ghost use Rattle.rssd_run.specs.Statuses.{Call, input, output, number_of};
@@ -27,6 +28,7 @@ use rssd_words::{Command, read_words};
 use std::alloc::Global;
 
 /// Answers `replay`.
+#[tactic(auto, using(rssd_io::proofs::Told::held_more))]
 fn answer_replay<T: Source, O: Sink>(
     alloc: Global,
     head: &ImageHead,
@@ -36,6 +38,8 @@ fn answer_replay<T: Source, O: Sink>(
     requires { is_within_limits head.now ≡ true }
     ensures says { SaysReplay head.now (input (T.log script.old) (T.log script.new)) (output (O.log out.old) (O.log out.new)) result }
     ensures script_bounded { TakesScript (T.log script.old) (T.log script.new) }
+    ensures script_left { TellsLeft (T.left script.old) (T.left script.new) (T.log script.old) (T.log script.new) }
+    ensures held { TellsHeld (O.written out.old) (O.written out.new) (O.log out.old) (O.log out.new) }
 {
     let lines = match read_script(alloc, script) {
         Ok(lines) => lines,
@@ -54,6 +58,7 @@ fn answer_replay<T: Source, O: Sink>(
 }
 
 /// Answers `run`.
+#[tactic(auto, using(rssd_io::proofs::Told::held_more))]
 fn answer_run<I: Source, T: Source, O: Sink, G: Sink>(
     alloc: Global,
     image: &mut I,
@@ -66,7 +71,11 @@ fn answer_run<I: Source, T: Source, O: Sink, G: Sink>(
         (output (O.log out.old) (O.log out.new))
         (output (G.log image_out.old) (G.log image_out.new)) result }
     ensures script_bounded { TakesScript (T.log script.old) (T.log script.new) }
+    ensures script_left { TellsLeft (T.left script.old) (T.left script.new) (T.log script.old) (T.log script.new) }
     ensures image_bounded { TakesImage false (I.log image.old) (I.log image.new) }
+    ensures image_left { TellsLeft (I.left image.old) (I.left image.new) (I.log image.old) (I.log image.new) }
+    ensures out_held { TellsHeld (O.written out.old) (O.written out.new) (O.log out.old) (O.log out.new) }
+    ensures image_out_held { TellsHeld (G.written image_out.old) (G.written image_out.new) (G.log image_out.old) (G.log image_out.new) }
 {
     let lines = match read_script(alloc, script) {
         Ok(lines) => lines,
@@ -99,7 +108,8 @@ fn answer_run<I: Source, T: Source, O: Sink, G: Sink>(
 /// Answers `format`.
 fn answer_format<G: Sink>(alloc: Global, head: &ImageHead, image_out: &mut G) -> Status
     requires { is_within_limits head.now ≡ true }
-    ensures { SaysFormat head.now (output (G.log image_out.old) (G.log image_out.new)) result }
+    ensures says { SaysFormat head.now (output (G.log image_out.old) (G.log image_out.new)) result }
+    ensures held { TellsHeld (G.written image_out.old) (G.written image_out.new) (G.log image_out.old) (G.log image_out.new) }
 {
     let Ok(cells) = blank_cells(alloc, head) else {
         return Status::OutOfMemory;
@@ -121,6 +131,9 @@ fn answer_upgrade<I: Source, O: Sink, G: Sink>(
         (output (O.log out.old) (O.log out.new))
         (output (G.log image_out.old) (G.log image_out.new)) result }
     ensures image_bounded { TakesImage true (I.log image.old) (I.log image.new) }
+    ensures image_left { TellsLeft (I.left image.old) (I.left image.new) (I.log image.old) (I.log image.new) }
+    ensures out_held { TellsHeld (O.written out.old) (O.written out.new) (O.log out.old) (O.log out.new) }
+    ensures image_out_held { TellsHeld (G.written image_out.old) (G.written image_out.new) (G.log image_out.old) (G.log image_out.new) }
 {
     let (head, cells) = match read_image(ImageReader::old(alloc), image) {
         Ok(read) => read,
@@ -150,9 +163,13 @@ fn answer_command<I: Source, T: Source, O: Sink, G: Sink>(
       out = output (O.log out.old) (O.log out.new);
       image_out = output (G.log image_out.old) (G.log image_out.new);
     }) result }
+    ensures image_left { TellsLeft (I.left image.old) (I.left image.new) (I.log image.old) (I.log image.new) }
+    ensures script_left { TellsLeft (T.left script.old) (T.left script.new) (T.log script.old) (T.log script.new) }
     ensures same_script { LeavesScript command.now → script.new ≡ script.old }
     ensures same_image { LeavesImage command.now → image.new ≡ image.old }
     ensures same_image_out { LeavesImageOut command.now → image_out.new ≡ image_out.old }
+    ensures out_held { TellsHeld (O.written out.old) (O.written out.new) (O.log out.old) (O.log out.new) }
+    ensures image_out_held { TellsHeld (G.written image_out.old) (G.written image_out.new) (G.log image_out.old) (G.log image_out.new) }
 {
     match command {
         Command::Replay(head) => answer_replay(alloc, head, script, out),
@@ -191,9 +208,13 @@ fn answer<I: Source, T: Source, O: Sink, G: Sink>(
       out = output (O.log out.old) (O.log out.new);
       image_out = output (G.log image_out.old) (G.log image_out.new);
     }) result }
+    ensures image_left { TellsLeft (I.left image.old) (I.left image.new) (I.log image.old) (I.log image.new) }
+    ensures script_left { TellsLeft (T.left script.old) (T.left script.new) (T.log script.old) (T.log script.new) }
     ensures same_script { OfSpelled LeavesScript (map string_bytes words.now) → script.new ≡ script.old }
     ensures same_image { OfSpelled LeavesImage (map string_bytes words.now) → image.new ≡ image.old }
     ensures same_image_out { OfSpelled LeavesImageOut (map string_bytes words.now) → image_out.new ≡ image_out.old }
+    ensures out_held { TellsHeld (O.written out.old) (O.written out.new) (O.log out.old) (O.log out.new) }
+    ensures image_out_held { TellsHeld (G.written image_out.old) (G.written image_out.new) (G.log image_out.old) (G.log image_out.new) }
 {
     match read_words(words) {
         Some(command) => answer_command(alloc, &command, image, script, out, image_out),
@@ -240,9 +261,13 @@ pub fn rssd<I: Source, T: Source, O: Sink, G: Sink>(
       out = output (O.log out.old) (O.log out.new);
       image_out = output (G.log image_out.old) (G.log image_out.new);
     } in (status : How) × (result ≡ number_of status) × Says call status }
+    ensures image_left { TellsLeft (I.left image.old) (I.left image.new) (I.log image.old) (I.log image.new) }
+    ensures script_left { TellsLeft (T.left script.old) (T.left script.new) (T.log script.old) (T.log script.new) }
     ensures same_script { OfSpelled LeavesScript (map string_bytes words.now) → script.new ≡ script.old }
     ensures same_image { OfSpelled LeavesImage (map string_bytes words.now) → image.new ≡ image.old }
     ensures same_image_out { OfSpelled LeavesImageOut (map string_bytes words.now) → image_out.new ≡ image_out.old }
+    ensures out_held { TellsHeld (O.written out.old) (O.written out.new) (O.log out.old) (O.log out.new) }
+    ensures image_out_held { TellsHeld (G.written image_out.old) (G.written image_out.new) (G.log image_out.old) (G.log image_out.new) }
 {
     answer(alloc, words, image, script, out, image_out) as u8
 }

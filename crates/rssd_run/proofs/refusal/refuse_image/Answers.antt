@@ -1,11 +1,10 @@
 -- Each cause has its line; only want of memory has none.
-use Rattle.std.proofs.Common.{◌≡◌, List, ℕ, refl}
+use Rattle.std.proofs.Common.{◌≡◌, refl}
 use Rattle.die_image.specs.declared.error.ImageError.{ImageError}
 use Rattle.die_image.specs.declared.error.ImageError.TheVariants as images
 use Rattle.rssd_run.specs.declared.status.Status.{Status}
 use Rattle.rssd_run.specs.declared.status.Status.TheVariants.{BadImage}
 use Rattle.rssd_run.specs.Statuses.{Output, GaveLine, RefusesImageSo, bad_image}
-use Rattle.rssd_run.proofs.refusal.refuse_image.Goals as goal
 
 refused_so : (why : ImageError) (status : Status) (out : Output) → (why ≡ images.OutOfMemory → ⊥) → status ≡ BadImage → GaveLine out (bad_image why) → RefusesImageSo why status out
 refused_so images.OutOfMemory status out other is line = absurd (other refl)

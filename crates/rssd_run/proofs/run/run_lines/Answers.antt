@@ -1,9 +1,10 @@
 -- A line more is a step more, and its text is given after the others.
-use Rattle.std.proofs.Common.{◌≡◌, ℕ, ◌+◌, ◌++◌, ◌∷◌, [], All, length, take, ◌∙◌, sym, ap, subst, arith, false, Result, Ok, Err, OnErr, length-take, append-nil, List}
+use Rattle.std.proofs.Common.{◌≡◌, ℕ, ◌+◌, ◌++◌, ◌∷◌, [], All, length, take, ◌∙◌, sym, ap, subst, arith, false, Result, Ok, Err, OnErr, length-take, List}
 use Rattle.std.proofs.lemmas.List.{take_all, take_more}
 use Rattle.std.proofs.lemmas.List.Elements.{All-get_or}
 use Rattle.rssd_io.specs.Event.{moved, failed}
-use Rattle.rssd_io.proofs.Logs.{more_came, came_behind, gave_failed}
+use Rattle.rssd_io.proofs.Logs.{gave_failed}
+use Rattle.rssd_io.proofs.Told.{held_same, held_more}
 use Rattle.rssd_script.specs.declared.lines.Line.{Line}
 use Rattle.rssd_script.specs.Replies.{reply_line}
 use Rattle.rssd_run.specs.Exchanges.{AnswersAll}
@@ -18,7 +19,7 @@ loop-line-init g c = record {
   numbers = λ d numbers. numbers;
   runs = λ d numbers before shows calm. (before, shows, calm, run_of_none d before (g.O.Sink.log c.args.out.now));
   answered = λ d numbers. answers_none d _ (g.O.Sink.log c.args.out.now);
-  grew = ([], sym (append-nil (g.O.Sink.log c.args.out.now)));
+  held = held_same (g.O.Sink.written c.args.out.now) (g.O.Sink.log c.args.out.now);
   keeps = λ d numbers die has. (die, has, keeps_none d die);
 }
 
@@ -46,7 +47,7 @@ loop-line-preserved g c =
       answered = λ d numbers.
           rw more (answers_more d _ _ _ (take i lines) line reply (log c.args.out.now) (log c.loop-line.out) (log c.give.new.self) (c.loop-line.invariant.answered d numbers)
           (c.step.ensures.answers d (c.loop-line.invariant.numbers d numbers)) given);
-      grew = (c.loop-line.invariant.grew.0 ++ moved c.as_slice.result.now ∷ [], more_came _ _ _ c.loop-line.invariant.grew.0 _ c.loop-line.invariant.grew.1 c.in_ok-give.ensures.log);
+      held = held_more c.loop-line.invariant.held c.in_ok-give.ensures.held;
       keeps = λ d numbers die has.
           let one = c.loop-line.invariant.keeps d numbers die has in
           let two = (c.step.ensures.step d (c.loop-line.invariant.numbers d numbers)).keeps one.0 one.1 in
@@ -83,17 +84,17 @@ returns-in_err-give-clause-err g c =
 pub returns-in_err-give-clause-fault : goal.returns-in_err-give-clause-fault
 returns-in_err-give-clause-fault g c =
     let log = g.O.Sink.log in
-    let grew = c.loop-line.invariant.grew in
+    let grew = c.loop-line.invariant.held in
     on_err c.from_residual.result _ (gave_failed (log c.args.out.now) (log c.loop-line.out)
-    (log c.give.new.self) grew.0 c.as_slice.result.now c.in_err-give.ensures.log.0 grew.1 c.in_err-give.ensures.log.1)
+    (log c.give.new.self) grew.events c.as_slice.result.now c.in_err-give.ensures.log.0 grew.came c.in_err-give.ensures.log.1)
 
 pub returns-in_err-give-clause-grew : goal.returns-in_err-give-clause-grew
 returns-in_err-give-clause-grew g c =
-    let log = g.O.Sink.log in
-    let grew = c.loop-line.invariant.grew in (
-      grew.0 ++ moved (take c.in_err-give.ensures.log.0 c.as_slice.result.now) ∷ failed ∷ [],
-      came_behind (log c.args.out.now) (log c.loop-line.out) (log c.give.new.self) grew.0 _ grew.1 c.in_err-give.ensures.log.1,
-    )
+    let held = held_more c.loop-line.invariant.held c.in_err-give.ensures.held in
+    (held.events, held.came)
+
+pub returns-in_err-give-clause-held : goal.returns-in_err-give-clause-held
+returns-in_err-give-clause-held g c = held_more c.loop-line.invariant.held c.in_err-give.ensures.held
 
 pub returns-in_err-give-clause-keeps : goal.returns-in_err-give-clause-keeps
 returns-in_err-give-clause-keeps g c = λ d numbers die has.

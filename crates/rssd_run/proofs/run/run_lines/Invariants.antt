@@ -1,6 +1,6 @@
 use Rattle.std.proofs.Common.{take}
 use Rattle.rssd_core.specs.DeviceValue.{Numbers}
-use Rattle.rssd_io.specs.Event.{Grows}
+use Rattle.rssd_io.specs.Told.{TellsHeld}
 use Rattle.rssd_run.specs.View.{View}
 use Rattle.rssd_run.specs.Run.{RunOf, CalmFor}
 use Rattle.rssd_run.specs.Exchanges.{AnswersAll}
@@ -15,6 +15,6 @@ invariant-loop-line g l = record {
       × RunOf d before (take l.line-index l.lines) now (g.O.Sink.log l.fn.out) (g.O.Sink.log l.out);
   answered : (d : Numbers) → HasNumbers d (g.S.Stepping.session l.fn.session).holding
       → AnswersAll d (g.S.Stepping.session l.fn.session) (take l.line-index l.lines) (g.S.Stepping.session l.session) (g.O.Sink.log l.fn.out) (g.O.Sink.log l.out);
-  grew : Grows (g.O.Sink.log l.fn.out) (g.O.Sink.log l.out);
+  held : TellsHeld (g.O.Sink.written l.fn.out) (g.O.Sink.written l.out) (g.O.Sink.log l.fn.out) (g.O.Sink.log l.out);
   keeps : (d : Numbers) → HasNumbers d (g.S.Stepping.session l.fn.session).holding → KeepsSession d (g.S.Stepping.session l.fn.session) (g.S.Stepping.session l.session);
 }

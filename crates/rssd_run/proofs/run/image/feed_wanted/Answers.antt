@@ -2,6 +2,7 @@
 use Rattle.std.proofs.Common.{ℕ, ◌<◌, ◌≤◌, ◌++◌, List, length, take, arith, refl, inl}
 use Rattle.std.proofs.lemmas.List.{take-append-le, length-take}
 use Rattle.die_image.specs.Image.{wanted, Fed}
+use Rattle.rssd_io.proofs.Told.{left_more, left_take}
 use Rattle.rssd_run.proofs.ReadImage.{took_none, taken, taken_failed, fault, stuck, falls, fed_more, fed_same, has_ended}
 use Rattle.rssd_run.proofs.run.image.feed_wanted.Goals as goal
 
@@ -38,11 +39,14 @@ loop-room-smaller g c =
 
 pub loop-room-preserved : goal.loop-room-preserved
 loop-room-preserved g c =
+    let left = g.I.Source.left in
+    let log = g.I.Source.log in
     let piece : List ℕ = take c.in-Ok.count c.take.new.into in
     let fits : length piece ≤ wanted c.loop-room.reader = omega (arith, c.in-Ok.ensures.bound, c.take.auto.into, length-take c.loop-room.room c.loop-room.piece) in
     let in_front : c.in-Ok.count ≤ length c.take.new.into = c.in-Ok.ensures.bound.0 in
     record {
       fed = fed_more _ _ _ c.args.reader.now c.loop-room.reader c.feed.new.self piece c.loop-room.invariant.fed c.in-Ok.ensures.log fits (rw take-append-le at c.in-Ok-feed.ensures.fed.1);
+      left = left_more c.loop-room.invariant.left (left_take c.take.result c.take.new.into (left c.loop-room.image) (left c.take.new.self) (log c.loop-room.image) (log c.take.new.self) c.take.ensures.log c.take.ensures.bytes);
       room = c.next_count-room-in-Ok-feed.ensures;
     }
 
@@ -54,3 +58,21 @@ returns-in-Err-clause-bounded g c = taken_failed _ _ _ c.args.reader.now c.loop-
 
 pub returns-clause-bounded : goal.returns-clause-bounded
 returns-clause-bounded g c = taken _ _ c.args.reader.now c.loop-room.reader c.loop-room.invariant.fed
+
+pub returns-in-Ok-eq0-clause-left : goal.returns-in-Ok-eq0-clause-left
+returns-in-Ok-eq0-clause-left g c =
+    let left = g.I.Source.left in
+    let log = g.I.Source.log in
+    left_more c.loop-room.invariant.left (left_take c.take.result c.take.new.into (left c.loop-room.image) (left c.take.new.self) (log c.loop-room.image) (log c.take.new.self) c.take.ensures.log c.take.ensures.bytes)
+
+pub returns-in-Err-feed-clause-left : goal.returns-in-Err-feed-clause-left
+returns-in-Err-feed-clause-left g c =
+    let left = g.I.Source.left in
+    let log = g.I.Source.log in
+    left_more c.loop-room.invariant.left (left_take c.take.result c.take.new.into (left c.loop-room.image) (left c.take.new.self) (log c.loop-room.image) (log c.take.new.self) c.take.ensures.log c.take.ensures.bytes)
+
+pub returns-in-Err-clause-left : goal.returns-in-Err-clause-left
+returns-in-Err-clause-left g c =
+    let left = g.I.Source.left in
+    let log = g.I.Source.log in
+    left_more c.loop-room.invariant.left (left_take c.take.result c.take.new.into (left c.loop-room.image) (left c.take.new.self) (log c.loop-room.image) (log c.take.new.self) c.take.ensures.log c.take.ensures.bytes)

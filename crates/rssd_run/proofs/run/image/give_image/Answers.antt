@@ -4,6 +4,7 @@ use Rattle.std.specs.Slice.Iter.{chunks_rest}
 use Rattle.cell_die.specs.DieState.{page_bytes}
 use Rattle.die_image.specs.Image.{image, shape_of}
 use Rattle.rssd_io.proofs.Pieces.{flush_done, flush_front, on_err}
+use Rattle.rssd_io.proofs.Told.{held_more}
 use Rattle.rssd_run.specs.GiveImage.{image_pieces, pages_in}
 use Rattle.rssd_run.proofs.GiveImage.{IsGiven, given_head, given_head_part, given_page, given_part, given_whole}
 use Rattle.rssd_run.proofs.run.image.give_image.Goals as goal
@@ -26,6 +27,7 @@ loop-page-preserved g c =
       next = omega (arith, steps.0, is.next);
       finite = tt;
       size = steps.0 ∙ is.size;
+      held = held_more is.held c.in_ok-give-2.ensures.held;
       given =
           given_page (log c.args.image_out.now) (log c.loop-page.image_out) (log c.give-in-loop-page.new.self) (image_pieces c.args.head.now c.args.cells.now) size
           (chunks_rest c.loop-page.page-iterator) c.in-Some.page.now (chunks_rest c.next.new.self)
@@ -53,6 +55,7 @@ loop-page-init g c =
       next = search rules;
       finite = tt;
       size = search rules;
+      held = c.in_ok-give.ensures.held;
       given = subst (λ (xs : List ℕ). IsGiven (log c.args.image_out.now) (log c.give.new.self) (image_pieces c.args.head.now c.args.cells.now) (pages_in size xs)) (sym rest)
           (given_head (log c.args.image_out.now) (log c.give.new.self) (image c.args.head.now []) c.encode_head.result (pages_in size c.args.cells.now)
           (c.encode_head.ensures []) c.in_ok-give.ensures.log);
@@ -75,3 +78,9 @@ returns-clause-front g c =
     given_whole (log c.args.image_out.now) (log c.loop-page.image_out) whole (page_bytes (shape_of c.args.head.now))
     (chunks_rest c.loop-page.page-iterator) c.loop-page.invariant.given c.in-None.ensures.steps.1.0 in
     flush_front c.flush.result (log c.args.image_out.now) (log c.loop-page.image_out) (log c.flush.new.self) whole given c.flush.ensures.log
+
+pub returns-in_err-give-2-clause-held : goal.returns-in_err-give-2-clause-held
+returns-in_err-give-2-clause-held g c = held_more c.loop-page.invariant.held c.in_err-give-2.ensures.held
+
+pub returns-clause-held : goal.returns-clause-held
+returns-clause-held g c = held_more c.loop-page.invariant.held c.flush.ensures.held

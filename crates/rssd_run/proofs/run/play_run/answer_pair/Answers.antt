@@ -32,4 +32,4 @@ returns-clause-says g c =
     let played : All IsPlayed lines = subst (All IsPlayed) (sym c.deref.ensures.value) c.in-Ok.ensures.played in
     says_play (IsPairStart head) NeverStops (numbers_named head) script out lines is_script played c.answer_on.result
     (ends_more (IsPlayStart head die) (IsPairStart head) _ NeverStops (numbers_named head) lines out c.answer_on.result (λ view start. (die, blank, start))
-    (λ view start events after play each. pair_each head die (pair_quiet head die c.requires.even blank) view start events after play) c.answer_on.ensures)
+    (λ view start events after play each. pair_each head die (pair_quiet head die c.requires.even blank) view start events after play) c.answer_on.ensures.ends)

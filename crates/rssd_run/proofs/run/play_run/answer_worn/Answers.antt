@@ -40,5 +40,5 @@ returns-clause-says g c =
     let is_script : HasLines script lines = subst (HasLines script) (sym c.deref.ensures.value) c.in-Ok.ensures.lines in
     let played : All IsPlayed lines = subst (All IsPlayed) (sym c.deref.ensures.value) c.in-Ok.ensures.played in
     says_play (IsWornStart head c.args.reserve c.args.bad) (IsWornStep head c.args.reserve c.args.bad) (numbers_named head) script out lines is_script played c.answer_on.result
-    (worn_ends head c.args.reserve c.args.bad c.requires.within c.requires.reserve die blank lines out c.answer_on.result c.answer_on.ensures
+    (worn_ends head c.args.reserve c.args.bad c.requires.within c.requires.reserve die blank lines out c.answer_on.result c.answer_on.ensures.ends
     (λ seen. record { inner = seen.inner; logical = seen.logical; tally = seen.tally; over = record { shows = refl; facts = seen.keeps } }))

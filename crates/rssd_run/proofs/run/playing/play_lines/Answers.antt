@@ -3,6 +3,7 @@ use Rattle.std.proofs.Common.{◌≡◌, ℕ, ◌+◌, ◌++◌, ◌∷◌, [], 
 use Rattle.std.proofs.lemmas.List.{take_more}
 use Rattle.std.proofs.lemmas.List.Elements.{All-get_or}
 use Rattle.rssd_io.specs.Event.{moved, failed}
+use Rattle.rssd_io.proofs.Told.{held_same, held_more}
 use Rattle.rssd_script.specs.Replies.{reply_line}
 use Rattle.rssd_core.specs.DeviceValue.{DeviceValue}
 use Rattle.rssd_run.specs.View.{Event}
@@ -13,7 +14,7 @@ use Rattle.rssd_run.proofs.run.playing.play_lines.Goals as goal
 
 pub loop-line-init : goal.loop-line-init
 loop-line-init g c =
-    record { numbers = refl; plays = λ base before stands. (before, stands, play_of_none (LeavesDie g.D.Die.state) (g.F.Device.device c.args.ftl.now).numbers before (g.O.Sink.log c.args.out.now)) }
+    record { numbers = refl; held = held_same (g.O.Sink.written c.args.out.now) (g.O.Sink.log c.args.out.now); plays = λ base before stands. (before, stands, play_of_none (LeavesDie g.D.Die.state) (g.F.Device.device c.args.ftl.now).numbers before (g.O.Sink.log c.args.out.now)) }
 
 pub loop-line-preserved : goal.loop-line-preserved
 loop-line-preserved g c =
@@ -32,6 +33,7 @@ loop-line-preserved g c =
     let given = subst (λ (xs : List ℕ). log c.give.new.self ≡ log c.loop-line.out ++ moved xs ∷ []) text c.in_ok-give.ensures.log in
     record {
       numbers = c.play_one-reply.ensures.numbers ∙ c.loop-line.invariant.numbers;
+      held = held_more c.loop-line.invariant.held c.in_ok-give.ensures.held;
       plays = λ base before stands.
           let so = c.loop-line.invariant.plays base before stands in
           let s = played_step first.numbers base line reply old new so.0 so.1 c.play_one-reply.ensures.numbers call in
@@ -70,3 +72,6 @@ returns-in_err-give-clause-err g c =
       play_cut_off (LeavesDie g.D.Die.state) first.numbers before (take i lines) e (log c.args.out.now) (log c.loop-line.out)
           (log c.give.new.self) so.2 s.2 leaves lines front c.in_err-give.ensures.log.0 given,
     ))
+
+pub returns-in_err-give-clause-held : goal.returns-in_err-give-clause-held
+returns-in_err-give-clause-held g c = held_more c.loop-line.invariant.held c.in_err-give.ensures.held

@@ -1,6 +1,7 @@
 -- One line more leads on from those before it, and at the end all that waits is served.
 use Rattle.std.proofs.Common.{◌≡◌, ℕ, ◌+◌, List, [], ◌∷◌, length, drop, sym, ap, ◌∙◌, refl, arith}
 use Rattle.std.proofs.lemmas.List.{drop_more, drop_all}
+use Rattle.rssd_io.proofs.Told.{held_same, held_more}
 use Rattle.rssd_script.specs.declared.lines.Line.{Line}
 use Rattle.rssd_run.specs.QueueActs.{place}
 use Rattle.rssd_run.proofs.QueueActs.{session_none, session_then, session_cut, session_at, cut_at}
@@ -12,6 +13,7 @@ loop-line-init g c = record {
   tag = refl;
   numbers = λ d numbers. numbers;
   queue_of = c.requires.queue_of;
+  held = held_same (g.O.Sink.written c.args.out.now) (g.O.Sink.log c.args.out.now);
   new_tags = λ n low. none_waits c.args.queue.now c.requires.none_waits n;
   acts = λ d numbers. session_none d (place c.args.lines.now 1 c.args.queue.now) (g.S.Stepping.session c.args.session.now) (g.O.Sink.log c.args.out.now);
 }
@@ -33,6 +35,7 @@ loop-line-preserved g c =
       tag = ap (λ n. n + 1) same;
       numbers = λ d numbers. c.take_line.ensures.numbers d (c.loop-line.invariant.numbers d numbers);
       queue_of = c.take_line.ensures.queue_of;
+      held = held_more c.loop-line.invariant.held c.take_line.ensures.held;
       new_tags = λ n low. c.in_ok-take_line.ensures.tags n (omega (arith, same, low));
       acts = λ d numbers.
           session_then d (place lines 1 c.args.queue.now) (place (drop i lines) (i + 1) c.loop-line.queue) (place rest (i + 1 + 1) c.take_line.new.queue)
@@ -94,3 +97,9 @@ returns-clause-err g c =
     (session_at d (place lines 1 c.args.queue.now) (place lines 1 c.args.queue.now) (place (drop i lines) (i + 1) c.loop-line.queue) (place [] (length lines + 1) c.loop-line.queue)
     (session c.args.session.now) (session c.loop-line.session) (log c.args.out.now) (log c.loop-line.out) refl end (c.loop-line.invariant.acts d numbers))
     (err d (c.loop-line.invariant.numbers d numbers) [] (length lines + 1) tt)) c.serve_all.ensures.err
+
+pub returns-in_err-take_line-clause-held : goal.returns-in_err-take_line-clause-held
+returns-in_err-take_line-clause-held g c = held_more c.loop-line.invariant.held c.take_line.ensures.held
+
+pub returns-clause-held : goal.returns-clause-held
+returns-clause-held g c = held_more c.loop-line.invariant.held c.serve_all.ensures.held

@@ -1,4 +1,5 @@
 -- One serve more leads on from those before it.
+use Rattle.rssd_io.proofs.Told.{held_same, held_more}
 use Rattle.rssd_run.specs.Serves.{is_running}
 use Rattle.rssd_run.specs.QueueActs.{place}
 use Rattle.rssd_run.proofs.QueueActs.{session_none, session_then, session_cut}
@@ -9,6 +10,7 @@ pub loop-init : goal.loop-init
 loop-init g c = record {
   numbers = λ d numbers. numbers;
   queue_of = c.requires.queue_of;
+  held = held_same (g.O.Sink.written c.args.out.now) (g.O.Sink.log c.args.out.now);
   acts = λ d numbers lines tag all. session_none d (place lines tag c.args.queue.now) (g.S.Stepping.session c.args.session.now) (g.O.Sink.log c.args.out.now);
 }
 
@@ -19,6 +21,7 @@ loop-preserved g c =
     record {
       numbers = λ d numbers. c.serve_next.ensures.numbers d (c.loop.invariant.numbers d numbers);
       queue_of = c.serve_next.ensures.queue_of;
+      held = held_more c.loop.invariant.held c.serve_next.ensures.held;
       acts = λ d numbers lines tag all.
           session_then d (place lines tag c.args.queue.now) (place lines tag c.loop.queue) (place lines tag c.serve_next.new.queue) (session c.args.session.now) (session c.loop.session)
           (session c.serve_next.new.session)
@@ -48,3 +51,9 @@ returns-in_err-serve_next-clause-err g c = always_err c.from_residual.result _ (
     session_cut d (place lines tag c.args.queue.now) (place lines tag c.loop.queue) (session c.args.session.now) (session c.loop.session) (session c.serve_next.new.session)
     (log c.args.out.now) (log c.loop.out) (log c.serve_next.new.out) (c.loop.invariant.acts d numbers lines tag all)
     (c.in_err-serve_next.ensures.err d (c.loop.invariant.numbers d numbers) lines tag (due_all (is_running (session c.loop.session).holding) c.loop.queue lines all)))
+
+pub returns-clause-held : goal.returns-clause-held
+returns-clause-held g c = held_more c.loop.invariant.held c.serve_next.ensures.held
+
+pub returns-in_err-serve_next-clause-held : goal.returns-in_err-serve_next-clause-held
+returns-in_err-serve_next-clause-held g c = held_more c.loop.invariant.held c.serve_next.ensures.held

@@ -16,7 +16,7 @@ returns-in_err-tell-clause-queue_of g c =
 pub returns-in_err-tell-clause-err : goal.returns-in_err-tell-clause-err
 returns-in_err-tell-clause-err g c = always_err c.from_residual.result _ (λ d numbers lines tag due.
     serve_cut d (g.S.Stepping.session c.args.session.now) (g.S.Stepping.session c.serve.new.self) (g.O.Sink.log c.args.out.now) (g.O.Sink.log c.tell.new.out) c.in-Some.tag c.in-Some.reply
-    c.args.queue.now c.serve.new.queue (c.in-Some.ensures.served d numbers) lines tag due c.in_err-tell.ensures.0 c.in_err-tell.ensures.1)
+    c.args.queue.now c.serve.new.queue (c.in-Some.ensures.served d numbers) lines tag due c.in_err-tell.ensures.given.0 c.in_err-tell.ensures.given.1)
 
 pub returns-clause-queue_of : goal.returns-clause-queue_of
 returns-clause-queue_of g c =
@@ -26,7 +26,7 @@ returns-clause-queue_of g c =
 pub returns-clause-ok : goal.returns-clause-ok
 returns-clause-ok g c = λ d numbers lines tag due.
     serve_acts d (g.S.Stepping.session c.args.session.now) (g.S.Stepping.session c.serve.new.self) (g.O.Sink.log c.args.out.now) (g.O.Sink.log c.tell.new.out) c.in-Some.tag c.in-Some.reply
-    c.args.queue.now c.serve.new.queue (c.in-Some.ensures.served d numbers) lines tag due c.in_ok-tell.ensures
+    c.args.queue.now c.serve.new.queue (c.in-Some.ensures.served d numbers) lines tag due c.in_ok-tell.ensures.given
 
 pub returns-clause-one : goal.returns-clause-one
 returns-clause-one g c = let s = c.in-Some.ensures.served c.requires.queue_of.numbers c.requires.queue_of.has in (s.command, s.taken)

@@ -1,5 +1,5 @@
 -- A script has no more lines than bytes.
-use Rattle.std.proofs.Common.{ℕ, ◌<◌, ◌^◌, List, length, sym, subst, arith}
+use Rattle.std.proofs.Common.{◌<◌, ◌^◌, List, length, sym, subst, arith}
 use Rattle.rssd_script.specs.declared.lines.Line.{Line}
 use Rattle.rssd_run.proofs.Spending.{lines_few}
 use Rattle.rssd_run.proofs.run.queue_run.answer_queue.Goals as goal

@@ -24,7 +24,7 @@ returns-in-Err-Sink-clause-says g c =
 pub returns-in-Err-NoSpare-clause-says : goal.returns-in-Err-NoSpare-clause-says
 returns-in-Err-NoSpare-clause-says g c =
     let full = c.in-Err-NoSpare.ensures.no_spare (ap Err c.in-Err-NoSpare.field-0-is) in
-    let line = subst (λ (old : g.row.O.Denot). GaveLine (output (g.O.Sink.log old) (g.O.Sink.log c.refuse.new.out)) no_spare) full.1 c.refuse.ensures in
+    let line = subst (λ (old : g.row.O.Denot). GaveLine (output (g.O.Sink.log old) (g.O.Sink.log c.refuse.new.out)) no_spare) full.1 c.refuse.ensures.line in
     let image : Input = input (g.I.Source.log c.args.image.now) (g.I.Source.log c.read_image.new.image) in
     let script : Input = input (g.T.Source.log c.args.script.now) (g.T.Source.log c.read_script.new.script) in
     let out : Output = output (g.O.Sink.log c.args.out.now) (g.O.Sink.log c.refuse.new.out) in
