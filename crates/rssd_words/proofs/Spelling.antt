@@ -14,7 +14,7 @@ use Rattle.rssd_words.proofs.Heads.{decimals_same, heads_same}
 use Rattle.rssd_words.proofs.Items.{word_at}
 
 -- words that begin with two names differ
-names_apart : {a b : List ℕ} {v w : List (List ℕ)} → pointwise nat_eq a b ≡ false → a ∷ v ≡ b ∷ w → ⊥
+pub names_apart : {a b : List ℕ} {v w : List (List ℕ)} → pointwise nat_eq a b ≡ false → a ∷ v ≡ b ∷ w → ⊥
 names_apart {a = a} {b = b} differ e = absurd (both_ways (pointwise nat_eq a b) differ ((bytes_decides a b).1 (ap (λ (words : List (List ℕ)). get_or words 0 []) e)))
 
 pub spelled_once : (a b : Command) → IsWithin a → IsWithin b → words_of a ≡ words_of b → a ≡ b
