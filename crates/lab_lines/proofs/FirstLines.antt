@@ -1,5 +1,5 @@
 -- Lines that were drawn one after another are the first of their workload.
-use Rattle.std.proofs.Common.{◌≡◌, ℕ, ◌+◌, List, [], ◌∷◌, length, refl, ap, sym, ◌∙◌, arith}
+use Rattle.std.proofs.Common.{◌≡◌, ◌+◌, List, [], ◌∷◌, length, refl, ap, ◌∙◌, arith}
 use Rattle.rssd_script.specs.declared.lines.Line.{Line}
 use Rattle.lab_lines.specs.declared.drawn.Drawn.{Drawn}
 use Rattle.lab_lines.specs.Given.{AllGiven}

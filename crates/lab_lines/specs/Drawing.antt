@@ -1,5 +1,5 @@
 -- What a drawn workload is to those that draw its lines.
-use Rattle.std.specs.Prelude.{◌≡◌, ℕ, ◌+◌, ◌<◌}
+use Rattle.std.specs.Prelude.{◌≡◌, ℕ, ◌+◌}
 use Rattle.rssd_script.specs.declared.lines.Line.{Line}
 use Rattle.lab_lines.specs.declared.drawn.Drawn.{Drawn}
 use Rattle.lab_lines.specs.Workload.{DrawPlan, DrawState, drawn_line, state_after}

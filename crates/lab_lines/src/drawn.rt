@@ -5,11 +5,11 @@ ghost use Rattle.lab_lines.specs.Workload.{table_of};
 
 use crate::kind::Kind;
 use crate::lines::{Lines, LinesEnd};
-use crate::words::{draw_bytes, draw_word};
 use crate::zipf::zipf_table;
 use rand_core::SeedableRng;
 use rand_xoshiro::SplitMix64;
 use rssd_script::Line;
+use rssd_work::{draw_bytes, draw_word};
 use std::alloc::{AllocError, Global};
 
 /// What a workload is drawn for. Of a thousand lines about `idle` are `idle 4`.

@@ -5,7 +5,6 @@ mod drawn;
 mod kind;
 mod law;
 mod lines;
-mod words;
 mod zipf;
 
 pub use drawn::{Drawn, Plan};

@@ -2,7 +2,6 @@
 #![tactic(auto)]
 
 mod asked;
-mod numbers;
 mod reading;
 
 pub use asked::{Asked, AskedDie, DieFrom, DieKind, LinesFrom, Voice};

@@ -1,9 +1,7 @@
 //! What the words ask for.
 ghost use Rattle.std.specs.Prelude.{◌≡◌, ◌≢◌, ℕ, List, true, [], ◌∷◌, ◌↔◌, ◌≤◌, ◌<◌, ◌^◌, map, IfSome, Some, codes, string_bytes, decimal};
-ghost use Rattle.die_image.specs.declared.head.ImageHead.{ImageHead as Head};
-ghost use Rattle.die_image.specs.Image.{is_within_limits};
 ghost use Rattle.rssd_words.specs.declared.command.Command.{Command as Ordered};
-ghost use Rattle.rssd_words.specs.Commands.{head_words, words_of as command_words};
+ghost use Rattle.rssd_words.specs.Commands.{words_of as command_words};
 ghost use Rattle.lab_lines.specs.declared.kind.Kind.{Kind as Chosen};
 ghost use Rattle.lab_words.specs.declared.asked.Asked.{Asked as Order};
 ghost use Rattle.lab_words.specs.declared.asked.AskedDie.{AskedDie as Wanted};
@@ -11,38 +9,9 @@ ghost use Rattle.lab_words.specs.declared.asked.DieFrom.{DieFrom as Place};
 ghost use Rattle.lab_words.specs.declared.asked.Voice.{Voice as Told};
 ghost use Rattle.lab_words.specs.Orders.{kind_word, voice_word, words_of, die_words, command_on, spelled_front, IsDrawnWithin, IsDieWithin, IsFromWithin, IsWithin, from_words};
 
-use crate::numbers::{read_number, read_small};
 use crate::{Asked, AskedDie, DieFrom, DieKind, LinesFrom, Voice};
-use die_image::{ImageHead, SchemeName, within_limits};
 use lab_lines::Kind;
-use rssd_words::{Command, read_words as read_command};
-
-/// The head that five words spell.
-fn read_head(
-    scheme: &str,
-    blocks: &str,
-    pages: &str,
-    sectors: &str,
-    reuse_max: &str,
-) -> Option<ImageHead>
-    ensures found { IfSome result (λ head. (is_within_limits head ≡ true)
-        × (scheme.now ∷ blocks.now ∷ pages.now ∷ sectors.now ∷ reuse_max.now ∷ [] ≡ head_words head)) }
-    ensures only { (head : Head) → is_within_limits head ≡ true
-        → scheme.now ∷ blocks.now ∷ pages.now ∷ sectors.now ∷ reuse_max.now ∷ [] ≡ head_words head → result ≡ Some head }
-{
-    let head = ImageHead {
-        scheme: SchemeName::of_name(scheme)?,
-        blocks: read_small(blocks)?,
-        pages: read_small(pages)?,
-        sectors: read_small(sectors)?,
-        reuse_max: read_small(reuse_max)?,
-    };
-    if within_limits(&head) {
-        Some(head)
-    } else {
-        None
-    }
-}
+use rssd_words::{Command, read_head, read_number, read_small, read_words as read_command};
 
 /// The die on which a command of `rssd` plays, where that is none of a head alone.
 fn of_command(command: Option<Command>) -> Option<AskedDie>
@@ -68,16 +37,11 @@ fn read_plain(words: &[String]) -> Option<AskedDie>
     ensures kind { IfSome result (λ die. die.kind ≡ DieKind.Plain) }
     ensures only { (die : Wanted) → die.kind ≡ DieKind.Plain → IsDieWithin die → map string_bytes words.now ≡ die_words die → result ≡ Some die }
 {
-    match words {
-        [a, b, c, d, e] => {
-            let head = read_head(a.as_str(), b.as_str(), c.as_str(), d.as_str(), e.as_str())?;
-            Some(AskedDie {
-                head,
-                kind: DieKind::Plain,
-            })
-        }
-        _ => None,
-    }
+    let head = read_head(words)?;
+    Some(AskedDie {
+        head,
+        kind: DieKind::Plain,
+    })
 }
 
 /// The blank die that the words spell: the words of its head, or those of the command `worn` or `pair` of `rssd`.

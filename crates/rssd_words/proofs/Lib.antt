@@ -1,4 +1,4 @@
 pub mod Names
-pub mod HeadCommands
-pub mod Six
-pub mod Eight
+pub mod Heads
+pub mod Items
+pub mod Spelling

@@ -2,10 +2,13 @@
 #![tactic(auto)]
 
 mod command;
+mod head;
 mod numbers;
 mod reading;
 
 pub use command::Command;
+pub use head::read_head;
+pub use numbers::{read_number, read_small};
 pub use reading::read_words;
 
 #[cfg(test)]

@@ -2,8 +2,10 @@
 #![tactic(auto)]
 
 mod drawing;
+mod words;
 mod workload;
 
+pub use words::{draw_bytes, draw_word};
 pub use workload::make;
 
 #[cfg(test)]

@@ -1,5 +1,5 @@
 -- Each turn adds the next row.
-use Rattle.std.proofs.Common.{◌≡◌, ◌+◌, ◌/◌, ◌++◌, List, ℕ, sym, ap, ◌∙◌}
+use Rattle.std.proofs.Common.{◌+◌, ◌/◌, ◌++◌, List, ℕ, sym, ap, ◌∙◌}
 use Rattle.std.specs.Prelude.{replicate}
 use Rattle.lab_lines.proofs.ZipfRows.{one_more_row, no_row}
 use Rattle.lab_lines.proofs.zipf.zipf_table.Goals as goal

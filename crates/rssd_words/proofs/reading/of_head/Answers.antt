@@ -1,18 +1,27 @@
--- The name tells the command, and heads with the same words are the same.
-use Rattle.rssd_words.proofs.HeadCommands.{replay_only, format_only, queue_only, pair_only, odd_none}
+-- No two commands have one spelling.
+use Rattle.std.proofs.Common.{Some, ◌%◌, ap, ◌∙◌}
+use Rattle.std.proofs.lemmas.Bool.{eq-eqb}
+use Rattle.rssd_words.specs.declared.command.Command.TheVariants.{Replay, Format, Queue, Pair}
+use Rattle.rssd_words.specs.Commands.{words_of}
+use Rattle.rssd_words.proofs.Spelling.{spelled_once, even_pair}
 use Rattle.rssd_words.proofs.reading.of_head.Goals as goal
 
 pub returns-in-replay-clause-only : goal.returns-in-replay-clause-only
-returns-in-replay-clause-only c = λ command within e. replay_only c.args.name.now c.args.head command c.in-replay.is c.requires within e
+unfolding words_of
+returns-in-replay-clause-only c command within e = ap Some (spelled_once (Replay c.args.head) command c.requires within (rw (c.in-replay.is) at e))
 
 pub returns-in-format-clause-only : goal.returns-in-format-clause-only
-returns-in-format-clause-only c = λ command within e. format_only c.args.name.now c.args.head command c.in-format.is c.requires within e
+unfolding words_of
+returns-in-format-clause-only c command within e = ap Some (spelled_once (Format c.args.head) command c.requires within (rw (c.in-format.is) at e))
 
 pub returns-in-queue-clause-only : goal.returns-in-queue-clause-only
-returns-in-queue-clause-only c = λ command within e. queue_only c.args.name.now c.args.head command c.in-queue.is c.requires within e
+unfolding words_of
+returns-in-queue-clause-only c command within e = ap Some (spelled_once (Queue c.args.head) command c.requires within (rw (c.in-queue.is) at e))
 
-pub returns-then-head-eq0-clause-only : goal.returns-then-head-eq0-clause-only
-returns-then-head-eq0-clause-only c = λ command within e. pair_only c.args.name.now c.args.head command c.in-pair.is c.requires within e
-
-pub returns-else-head-eq0-clause-only : goal.returns-else-head-eq0-clause-only
-returns-else-head-eq0-clause-only c = λ command within e. odd_none c.args.name.now c.args.head command c.in-pair.is c.requires within c.if-head-eq0.false e
+pub returns-in-pair-clause-only : goal.returns-in-pair-clause-only
+unfolding words_of
+returns-in-pair-clause-only c command within e =
+    let spelled = rw (c.in-pair.is) at e in
+    let even = even_pair c.args.head command c.requires within spelled in
+    let same = spelled_once (Pair c.args.head) command (c.requires, even) within spelled in
+    c.then_some.ensures ∙ rw (eq-eqb (c.args.head.blocks % 2) 0 even) (ap Some same)

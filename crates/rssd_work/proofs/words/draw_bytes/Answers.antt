@@ -5,8 +5,8 @@ use Rattle.std.specs.Int.{w64, to_le_bytes}
 use Rattle.std.specs.Prelude.{IfOk}
 use Rattle.std.specs.Result.{is_ok}
 use Rattle.rssd_work.specs.Workload.{word, word_bytes, after_words}
-use Rattle.lab_lines.proofs.MoreWords.{one_more_word, one_word_on, all_words, no_word_on, at_ok}
-use Rattle.lab_lines.proofs.words.draw_bytes.Goals as goal
+use Rattle.rssd_work.proofs.Drawn.{one_more_word, one_word_on, all_words, no_word_on, at_ok}
+use Rattle.rssd_work.proofs.words.draw_bytes.Goals as goal
 
 pub loop-preserved : goal.loop-preserved
 loop-preserved c =

@@ -1,7 +1,7 @@
 -- The bytes so far and those to come are the bytes of all words.
 use Rattle.std.proofs.Common.{◌≡◌, ◌-◌, ◌*◌, ◌++◌, length}
 use Rattle.rssd_work.specs.Workload.{word_bytes, after_words}
-use Rattle.rssd_work.proofs.drawing.draw_bytes.Given as goal
+use Rattle.rssd_work.proofs.words.draw_bytes.Given as goal
 
 abbrev pub invariant-loop : goal.invariant-loop
 invariant-loop l = record {
