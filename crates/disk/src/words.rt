@@ -7,7 +7,7 @@ use crate::status::Status;
 use cell_die::Torn;
 use die_image::ImageHead;
 use rssd_script::{Line, TornWord, parse};
-use rssd_words::{Command, read_words};
+use rssd_words::read_head;
 use std::alloc::{AllocError, Global};
 use std::{env, io};
 
@@ -37,21 +37,6 @@ fn words(rt: &HostRuntime) -> io::Result<Vec<String>> {
         words.push(word)?;
     }
     Ok(words)
-}
-
-/// The head that five words spell.
-fn read_head(alloc: Global, words: &[String]) -> Result<Option<ImageHead>, AllocError>
-    ensures within { IfOk result (λ made. IfSome made (λ head. is_within_limits head ≡ true)) }
-{
-    let mut spelled = Vec::new(alloc);
-    spelled.push(String::from_str(alloc, "format")?)?;
-    for word in words {
-        spelled.push(word.clone()?)?;
-    }
-    Ok(match read_words(&spelled) {
-        Some(Command::Format(head)) => Some(head),
-        _ => None,
-    })
 }
 
 /// The cut that these words spell, as a line of a script does.
@@ -106,7 +91,7 @@ fn read_all(alloc: Global, words: &[String]) -> Result<Option<Asked>, AllocError
     let (name, made, options) = match words {
         [verb, name, options @ ..] if verb.as_str() == "open" => (name, None, options),
         [verb, name, rest @ ..] if verb.as_str() == "new" && rest.len() >= 5 => {
-            let Some(head) = read_head(alloc, &rest[..5])? else {
+            let Some(head) = read_head(&rest[..5]) else {
                 return Ok(None);
             };
             (name, Some(head), &rest[5..])
