@@ -7,5 +7,6 @@ pub mod Says
 pub mod Again
 pub mod Collections
 pub mod Steps
+pub mod Desk
 pub mod Settles
 pub mod Inside

@@ -14,7 +14,7 @@ ghost use Rattle.collector.specs.Inside.{Begun, Stands, StandsAt, EndsAt, TurnEn
 ghost use Rattle.collector.specs.Named.{names_slot};
 
 use crate::again::says_zeros;
-use crate::copy::copy_record;
+use crate::desk::Desk;
 use crate::live::is_named;
 use crate::moves::Move;
 use block_state::Book;
@@ -68,7 +68,14 @@ fn copy_slot<D: Die, C: Scheme>(
         return Ok(copies);
     }
     let page = spare * book.pages() + copies;
-    match copy_record(die, scheme, work, book, seq, spare, page, place, &header) {
+    let mut desk = Desk {
+        die,
+        scheme,
+        work,
+        book,
+        seq,
+    };
+    match desk.copy_record(spare, page, place, &header) {
         Ok(()) => {
             moves[copies as usize] = Move {
                 sector: header.sector,

@@ -1,0 +1,45 @@
+-- What a call on a desk may rely on, and what it keeps.
+use Rattle.std.specs.Prelude.{◌≡◌, ℕ, ◌≤◌, ◌<◌, ◌+◌, ◌^◌, true, Result}
+use Rattle.zero_count.specs.declared.Header.{Header}
+use Rattle.cell_die.specs.Cells.{is_blank}
+use Rattle.cell_die.specs.DieState.{DieState, page_count, page_of}
+use Rattle.cell_die.specs.Calls.{Kept}
+use Rattle.striped.specs.Meaning.{Meaning}
+use Rattle.block_state.specs.Book.{IsSpare}
+use Rattle.page_codec.specs.declared.place.Place.{Place}
+use Rattle.page_codec.specs.declared.fault.PutFault.{PutFault}
+use Rattle.page_codec.specs.Sizes.{Serves, ServesScheme}
+use Rattle.collector.specs.declared.desk.Desk.{Desk}
+use Rattle.collector.specs.Steps.{CopyEnds}
+
+-- the desk holds the references that it held
+abbrev pub SameDesk : {D C : Type 0} → Desk D C → Desk D C → Type 0
+SameDesk old new = (new.die.ghost_name ≡ old.die.ghost_name) × (new.scheme.ghost_name ≡ old.scheme.ghost_name) × (new.work.ghost_name ≡ old.work.ghost_name)
+    × (new.book.ghost_name ≡ old.book.ghost_name) × (new.seq.ghost_name ≡ old.seq.ghost_name)
+
+module _ {D C : Type 0} (state : D → DieState) where
+  -- A page of the spare is ready for a copy.
+  pub record IsReady (desk : Desk D C) (spare page : ℕ) : Type 0 where
+    pub there : page < page_count (state desk.die.now).shape
+    pub blank : is_blank (page_of (state desk.die.now) page) ≡ true
+    pub is_spare : IsSpare desk.book.now spare
+    pub fresh : desk.seq.now + 1 < 2 ^ 64
+
+module _ {D C : Type 0} (state : D → DieState) (meaning : C → Meaning) where
+  -- The room of the codec serves the die and the scheme, whose sectors are small.
+  pub record Fits (desk : Desk D C) : Type 0 where
+    pub die : Serves desk.work.now (state desk.die.now).shape
+    pub scheme : ServesScheme desk.work.now (meaning desk.scheme.now)
+    pub small_sector : (meaning desk.scheme.now).sector_bytes ≤ 512
+
+  -- What a call on the desk keeps, whatever its outcome.
+  pub record Stays (old new : Desk D C) : Type 0 where
+    pub kept : Kept (state old.die.now) (state new.die.now)
+    pub erases : (state new.die.now).erases ≡ (state old.die.now).erases
+    pub scheme : meaning new.scheme.now ≡ meaning old.scheme.now
+    pub work : new.work.now ≡ old.work.now
+
+  -- how a copy ends on the desk
+  abbrev pub DeskCopies : {T : Type 0} → ℕ → ℕ → Place → Header → Result T PutFault → Desk D C → Desk D C → Type 0
+  DeskCopies spare page place header result old new = CopyEnds (meaning old.scheme.now) spare page place header result (state old.die.now) old.book.now old.seq.now
+      (state new.die.now) new.book.now new.seq.now
