@@ -1,16 +1,21 @@
 -- What a call on a desk may rely on, and what it keeps.
-use Rattle.std.specs.Prelude.{◌≡◌, ℕ, ◌≤◌, ◌<◌, ◌+◌, ◌^◌, true, Result}
+use Rattle.std.specs.Prelude.{◌≡◌, ℕ, ◌≤◌, ◌<◌, ◌+◌, ◌^◌, true, List, length, Option, Result}
 use Rattle.zero_count.specs.declared.Header.{Header}
 use Rattle.cell_die.specs.Cells.{is_blank}
 use Rattle.cell_die.specs.DieState.{DieState, page_count, page_of}
 use Rattle.cell_die.specs.Calls.{Kept}
 use Rattle.striped.specs.Meaning.{Meaning}
+use Rattle.sector_map.specs.declared.entry.Entry.{Entry}
 use Rattle.block_state.specs.Book.{IsSpare}
+use Rattle.page_codec.specs.Geometry.{Geometry}
 use Rattle.page_codec.specs.declared.place.Place.{Place}
 use Rattle.page_codec.specs.declared.fault.PutFault.{PutFault}
 use Rattle.page_codec.specs.Sizes.{Serves, ServesScheme}
 use Rattle.collector.specs.declared.desk.Desk.{Desk}
+use Rattle.collector.specs.declared.live.LiveRecord.{LiveRecord}
+use Rattle.collector.specs.Again.{AgainEnds}
 use Rattle.collector.specs.Steps.{CopyEnds}
+use Rattle.collector.specs.Store.{Store, store, geometry_of}
 
 -- the desk holds the references that it held
 abbrev pub SameDesk : {D C : Type 0} → Desk D C → Desk D C → Type 0
@@ -18,6 +23,15 @@ SameDesk old new = (new.die.ghost_name ≡ old.die.ghost_name) × (new.scheme.gh
     × (new.book.ghost_name ≡ old.book.ghost_name) × (new.seq.ghost_name ≡ old.seq.ghost_name)
 
 module _ {D C : Type 0} (state : D → DieState) where
+  -- A record may be put on a page.
+  pub record IsFree (desk : Desk D C) (page : ℕ) : Type 0 where
+    pub there : page < page_count (state desk.die.now).shape
+    pub blank : is_blank (page_of (state desk.die.now) page) ≡ true
+
+  -- what the desk and a map stand for
+  abbrev pub store_on : Desk D C → List (Option Entry) → Store
+  store_on desk table = store (state desk.die.now) table desk.book.now desk.seq.now
+
   -- A page of the spare is ready for a copy.
   pub record IsReady (desk : Desk D C) (spare page : ℕ) : Type 0 where
     pub there : page < page_count (state desk.die.now).shape
@@ -43,3 +57,11 @@ module _ {D C : Type 0} (state : D → DieState) (meaning : C → Meaning) where
   abbrev pub DeskCopies : {T : Type 0} → ℕ → ℕ → Place → Header → Result T PutFault → Desk D C → Desk D C → Type 0
   DeskCopies spare page place header result old new = CopyEnds (meaning old.scheme.now) spare page place header result (state old.die.now) old.book.now old.seq.now
       (state new.die.now) new.book.now new.seq.now
+
+  -- how a record is put again by the desk, whose book stays
+  abbrev pub DeskPutsAgain : {T : Type 0} → LiveRecord → ℕ → Result T PutFault → Desk D C → Desk D C → Type 0
+  DeskPutsAgain live page result old new = AgainEnds (meaning old.scheme.now) live page result (state old.die.now) old.seq.now (state new.die.now) new.seq.now
+
+  -- the desk and a map, as a device
+  abbrev pub geometry_on : Desk D C → List (Option Entry) → Geometry
+  geometry_on desk table = geometry_of (state desk.die.now).shape (meaning desk.scheme.now) (length table)

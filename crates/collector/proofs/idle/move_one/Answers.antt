@@ -1,11 +1,13 @@
 -- The first record of the victim that the map names is its first live one, and reads before its move change no cell.
-use Rattle.std.proofs.Common.{◌≡◌, ◌∙◌, ◌<◌, ◌*◌, ℕ, length, refl, sym, subst, arith, ◌+◌, ◌≤◌}
+use Rattle.std.proofs.Common.{◌≡◌, ◌∙◌, ◌<◌, ◌*◌, ℕ, length, refl, sym, subst, arith, ◌+◌, ◌≤◌, rules}
 use Rattle.std.proofs.lemmas.Result.{err_from_is_err_and}
 use Rattle.page_codec.specs.declared.fault.PutFault.{PutFault}
 use Rattle.page_codec.specs.declared.fault.PutFault.TheVariants.{Read, Change}
 use Rattle.page_codec.specs.Geometry.{Geometry}
 use Rattle.collector.specs.Store.{geometry_of, store, Holds}
 use Rattle.collector.specs.Again.{MovedRecord, MoveFails}
+use Rattle.collector.specs.Moves.{Moved, MoveReadFailed, MoveChangeFailed}
+use Rattle.collector.proofs.Desks.{left_so}
 use Rattle.collector.proofs.Fresh.{holds_after}
 use Rattle.collector.proofs.Chosen.{from_none, none_left, closed_within, block_pages, has_named, first_live, moved_one, change_failed_one, read_failed_one, some_pages, one_left}
 use Rattle.collector.proofs.Chosen.{search_failed_one, failed_at, failed_any, on_err, named_sooner, same_geometry, first_at, named_at, passed_at, live_after_reads}
@@ -50,25 +52,27 @@ move_record-requires-clause-live g c =
 
 pub returns-in_err-move_record-clause-holds : goal.returns-in_err-move_record-clause-holds
 returns-in_err-move_record-clause-holds g c =
-    holds_after (geometry_of (g.D.Die.state c.args.die.now).shape (g.C.Scheme.meaning c.args.scheme.now) (length c.args.map.now))
+    left_so g.D.Die.state (Holds _ _) (search rules) (search rules) (search rules)
+    (holds_after (geometry_of (g.D.Die.state c.args.die.now).shape (g.C.Scheme.meaning c.args.scheme.now) (length c.args.map.now))
     (store (g.D.Die.state c.args.die.now) c.args.map.now c.args.book.now c.args.seq.now)
-    (store (g.D.Die.state c.move_record.new.die) c.move_record.new.map c.move_record.new.book c.move_record.new.seq)
+    (store (g.D.Die.state c.move_record.new.self.die.now) c.move_record.new.map c.move_record.new.self.book.now c.move_record.new.self.seq.now)
     (g.D.Die.state c.find_first.new.die) c.find_first.ensures.kept c.find_first.ensures.same_cells c.in-Ok.ensures.passed.change_faults
     (subst (λ (h : Geometry). Holds h (store (g.D.Die.state c.find_first.new.die) c.args.map.now c.args.book.now c.args.seq.now)
-    (store (g.D.Die.state c.move_record.new.die) c.move_record.new.map c.move_record.new.book c.move_record.new.seq))
+    (store (g.D.Die.state c.move_record.new.self.die.now) c.move_record.new.map c.move_record.new.self.book.now c.move_record.new.self.seq.now))
     (same_geometry (g.D.Die.state c.args.die.now).shape (g.D.Die.state c.find_first.new.die).shape (g.C.Scheme.meaning c.args.scheme.now)
-    (length c.args.map.now) c.find_first.ensures.kept.shape) c.move_record.ensures.holds)
+    (length c.args.map.now) c.find_first.ensures.kept.shape) c.move_record.ensures.holds))
 
 pub returns-clause-holds : goal.returns-clause-holds
 returns-clause-holds g c =
-    holds_after (geometry_of (g.D.Die.state c.args.die.now).shape (g.C.Scheme.meaning c.args.scheme.now) (length c.args.map.now))
+    left_so g.D.Die.state (Holds _ _) (search rules) (search rules) (search rules)
+    (holds_after (geometry_of (g.D.Die.state c.args.die.now).shape (g.C.Scheme.meaning c.args.scheme.now) (length c.args.map.now))
     (store (g.D.Die.state c.args.die.now) c.args.map.now c.args.book.now c.args.seq.now)
-    (store (g.D.Die.state c.move_record.new.die) c.move_record.new.map c.move_record.new.book c.move_record.new.seq)
+    (store (g.D.Die.state c.move_record.new.self.die.now) c.move_record.new.map c.move_record.new.self.book.now c.move_record.new.self.seq.now)
     (g.D.Die.state c.find_first.new.die) c.find_first.ensures.kept c.find_first.ensures.same_cells c.in-Ok.ensures.passed.change_faults
     (subst (λ (h : Geometry). Holds h (store (g.D.Die.state c.find_first.new.die) c.args.map.now c.args.book.now c.args.seq.now)
-    (store (g.D.Die.state c.move_record.new.die) c.move_record.new.map c.move_record.new.book c.move_record.new.seq))
+    (store (g.D.Die.state c.move_record.new.self.die.now) c.move_record.new.map c.move_record.new.self.book.now c.move_record.new.self.seq.now))
     (same_geometry (g.D.Die.state c.args.die.now).shape (g.D.Die.state c.find_first.new.die).shape (g.C.Scheme.meaning c.args.scheme.now)
-    (length c.args.map.now) c.find_first.ensures.kept.shape) c.move_record.ensures.holds)
+    (length c.args.map.now) c.find_first.ensures.kept.shape) c.move_record.ensures.holds))
 
 pub returns-clause-moved : goal.returns-clause-moved
 returns-clause-moved g c =
@@ -79,9 +83,10 @@ returns-clause-moved g c =
     (some_pages c.args.book.now c.in-Some.next.page c.in-Some.next.room c.requires.tables.kept c.in-Some.ensures.some)) c.in-Some-idle_victim.victim c.in-Ok.live
     (first_at c.args.map.now c.args.work.now (g.D.Die.state c.args.die.now) c.in-Some-idle_victim.victim c.pages-pages.result (g.D.Die.state c.args.die.now).shape.pages c.in-Ok.live
     (c.pages-pages.ensures.value ∙ c.requires.tables.sizes.pages) c.in-Ok.ensures.found) in
-    moved_one (geometry_of (g.D.Die.state c.args.die.now).shape (g.C.Scheme.meaning c.args.scheme.now) (length c.args.map.now)) (g.C.Scheme.meaning c.args.scheme.now)
+    left_so g.D.Die.state (Moved _ _ _) (search rules) (search rules) (search rules)
+    (moved_one (geometry_of (g.D.Die.state c.args.die.now).shape (g.C.Scheme.meaning c.args.scheme.now) (length c.args.map.now)) (g.C.Scheme.meaning c.args.scheme.now)
     (store (g.D.Die.state c.args.die.now) c.args.map.now c.args.book.now c.args.seq.now)
-    (store (g.D.Die.state c.move_record.new.die) c.move_record.new.map c.move_record.new.book c.move_record.new.seq)
+    (store (g.D.Die.state c.move_record.new.self.die.now) c.move_record.new.map c.move_record.new.self.book.now c.move_record.new.self.seq.now)
     (g.D.Die.state c.find_first.new.die) c.in-Some.next.page c.in-Some.next.room c.in-Some-idle_victim.victim c.in-Ok.live c.requires.tables.sizes.pages refl c.in-Some.ensures.some
     c.in-Some-idle_victim.ensures.found
     c.find_first.ensures.same_cells (passed_at (g.D.Die.state c.args.die.now) (g.D.Die.state c.find_first.new.die) c.in-Ok.live.place.page c.in-Some-idle_victim.victim c.pages-pages.result
@@ -89,10 +94,10 @@ returns-clause-moved g c =
     first
     (subst (λ (h : Geometry). MovedRecord h (g.C.Scheme.meaning c.args.scheme.now).decoding c.in-Ok.live c.in-Some.next.page
     (store (g.D.Die.state c.find_first.new.die) c.args.map.now c.args.book.now c.args.seq.now)
-    (store (g.D.Die.state c.move_record.new.die) c.move_record.new.map c.move_record.new.book c.move_record.new.seq))
+    (store (g.D.Die.state c.move_record.new.self.die.now) c.move_record.new.map c.move_record.new.self.book.now c.move_record.new.self.seq.now))
     (same_geometry (g.D.Die.state c.args.die.now).shape (g.D.Die.state c.find_first.new.die).shape (g.C.Scheme.meaning c.args.scheme.now)
     (length c.args.map.now) c.find_first.ensures.kept.shape) c.in_ok-move_record.ensures.ends.0)
-    c.move_record.ensures.same_erases c.in_ok-move_record.ensures.ends.1
+    c.move_record.ensures.stays.erases c.in_ok-move_record.ensures.ends.1)
 
 pub returns-in_err-move_record-clause-change_failed : goal.returns-in_err-move_record-clause-change_failed
 returns-in_err-move_record-clause-change_failed g c =
@@ -106,19 +111,20 @@ returns-in_err-move_record-clause-change_failed g c =
     (some_pages c.args.book.now c.in-Some.next.page c.in-Some.next.room c.requires.tables.kept c.in-Some.ensures.some)) c.in-Some-idle_victim.victim c.in-Ok.live
     (first_at c.args.map.now c.args.work.now (g.D.Die.state c.args.die.now) c.in-Some-idle_victim.victim c.pages-pages.result (g.D.Die.state c.args.die.now).shape.pages c.in-Ok.live
     (c.pages-pages.ensures.value ∙ c.requires.tables.sizes.pages) c.in-Ok.ensures.found) in
-    change_failed_one (geometry_of (g.D.Die.state c.args.die.now).shape (g.C.Scheme.meaning c.args.scheme.now) (length c.args.map.now)) (g.C.Scheme.meaning c.args.scheme.now)
+    left_so g.D.Die.state (MoveChangeFailed _ _ _) (search rules) (search rules) (search rules)
+    (change_failed_one (geometry_of (g.D.Die.state c.args.die.now).shape (g.C.Scheme.meaning c.args.scheme.now) (length c.args.map.now)) (g.C.Scheme.meaning c.args.scheme.now)
     (store (g.D.Die.state c.args.die.now) c.args.map.now c.args.book.now c.args.seq.now)
-    (store (g.D.Die.state c.move_record.new.die) c.move_record.new.map c.move_record.new.book c.move_record.new.seq)
+    (store (g.D.Die.state c.move_record.new.self.die.now) c.move_record.new.map c.move_record.new.self.book.now c.move_record.new.self.seq.now)
     (g.D.Die.state c.find_first.new.die) c.in-Some.next.page c.in-Some.next.room c.in-Some-idle_victim.victim c.in-Ok.live refl c.in-Some.ensures.some c.in-Some-idle_victim.ensures.found
     c.find_first.ensures.same_cells (passed_at (g.D.Die.state c.args.die.now) (g.D.Die.state c.find_first.new.die) c.in-Ok.live.place.page c.in-Some-idle_victim.victim c.pages-pages.result
     (g.D.Die.state c.args.die.now).shape.pages (c.pages-pages.ensures.value ∙ c.requires.tables.sizes.pages) c.in-Ok.ensures.passed)
     first
     (subst (λ (h : Geometry). MoveFails h (g.C.Scheme.meaning c.args.scheme.now) c.in-Ok.live Change (store (g.D.Die.state c.find_first.new.die) c.args.map.now c.args.book.now c.args.seq.now)
-    (store (g.D.Die.state c.move_record.new.die) c.move_record.new.map c.move_record.new.book c.move_record.new.seq))
+    (store (g.D.Die.state c.move_record.new.self.die.now) c.move_record.new.map c.move_record.new.self.book.now c.move_record.new.self.seq.now))
     (same_geometry (g.D.Die.state c.args.die.now).shape (g.D.Die.state c.find_first.new.die).shape (g.C.Scheme.meaning c.args.scheme.now) (length c.args.map.now) c.find_first.ensures.kept.shape)
     (subst (λ (f : PutFault). MoveFails (geometry_of (g.D.Die.state c.find_first.new.die).shape (g.C.Scheme.meaning c.args.scheme.now) (length c.args.map.now))
     (g.C.Scheme.meaning c.args.scheme.now) c.in-Ok.live f (store (g.D.Die.state c.find_first.new.die) c.args.map.now c.args.book.now c.args.seq.now)
-    (store (g.D.Die.state c.move_record.new.die) c.move_record.new.map c.move_record.new.book c.move_record.new.seq)) fault c.in_err-move_record.ensures.ends)) c.move_record.ensures.same_erases
+    (store (g.D.Die.state c.move_record.new.self.die.now) c.move_record.new.map c.move_record.new.self.book.now c.move_record.new.self.seq.now)) fault c.in_err-move_record.ensures.ends)) c.move_record.ensures.stays.erases)
 
 pub returns-in_default-find_first-clause-none_alone : goal.returns-in_default-find_first-clause-none_alone
 returns-in_default-find_first-clause-none_alone g c none =
@@ -144,20 +150,21 @@ returns-in_err-move_record-clause-read_failed g c =
     (some_pages c.args.book.now c.in-Some.next.page c.in-Some.next.room c.requires.tables.kept c.in-Some.ensures.some)) c.in-Some-idle_victim.victim c.in-Ok.live
     (first_at c.args.map.now c.args.work.now (g.D.Die.state c.args.die.now) c.in-Some-idle_victim.victim c.pages-pages.result (g.D.Die.state c.args.die.now).shape.pages c.in-Ok.live
     (c.pages-pages.ensures.value ∙ c.requires.tables.sizes.pages) c.in-Ok.ensures.found) in
-    read_failed_one (geometry_of (g.D.Die.state c.args.die.now).shape (g.C.Scheme.meaning c.args.scheme.now) (length c.args.map.now)) (g.C.Scheme.meaning c.args.scheme.now)
+    left_so g.D.Die.state (MoveReadFailed _ _) (search rules) (search rules) (search rules)
+    (read_failed_one (geometry_of (g.D.Die.state c.args.die.now).shape (g.C.Scheme.meaning c.args.scheme.now) (length c.args.map.now)) (g.C.Scheme.meaning c.args.scheme.now)
     (store (g.D.Die.state c.args.die.now) c.args.map.now c.args.book.now c.args.seq.now)
-    (store (g.D.Die.state c.move_record.new.die) c.move_record.new.map c.move_record.new.book c.move_record.new.seq)
+    (store (g.D.Die.state c.move_record.new.self.die.now) c.move_record.new.map c.move_record.new.self.book.now c.move_record.new.self.seq.now)
     (g.D.Die.state c.find_first.new.die) c.in-Some.next.page c.in-Some.next.room c.in-Some-idle_victim.victim c.in-Ok.live refl c.in-Some.ensures.some c.in-Some-idle_victim.ensures.found
     c.find_first.ensures.same_cells (passed_at (g.D.Die.state c.args.die.now) (g.D.Die.state c.find_first.new.die) c.in-Ok.live.place.page c.in-Some-idle_victim.victim c.pages-pages.result
     (g.D.Die.state c.args.die.now).shape.pages (c.pages-pages.ensures.value ∙ c.requires.tables.sizes.pages) c.in-Ok.ensures.passed)
     (first_at c.args.map.now c.args.work.now (g.D.Die.state c.args.die.now) c.in-Some-idle_victim.victim c.pages-pages.result (g.D.Die.state c.args.die.now).shape.pages c.in-Ok.live
     (c.pages-pages.ensures.value ∙ c.requires.tables.sizes.pages) c.in-Ok.ensures.found).high first
     (subst (λ (h : Geometry). MoveFails h (g.C.Scheme.meaning c.args.scheme.now) c.in-Ok.live Read (store (g.D.Die.state c.find_first.new.die) c.args.map.now c.args.book.now c.args.seq.now)
-    (store (g.D.Die.state c.move_record.new.die) c.move_record.new.map c.move_record.new.book c.move_record.new.seq))
+    (store (g.D.Die.state c.move_record.new.self.die.now) c.move_record.new.map c.move_record.new.self.book.now c.move_record.new.self.seq.now))
     (same_geometry (g.D.Die.state c.args.die.now).shape (g.D.Die.state c.find_first.new.die).shape (g.C.Scheme.meaning c.args.scheme.now) (length c.args.map.now) c.find_first.ensures.kept.shape)
     (subst (λ (f : PutFault). MoveFails (geometry_of (g.D.Die.state c.find_first.new.die).shape (g.C.Scheme.meaning c.args.scheme.now) (length c.args.map.now))
     (g.C.Scheme.meaning c.args.scheme.now) c.in-Ok.live f (store (g.D.Die.state c.find_first.new.die) c.args.map.now c.args.book.now c.args.seq.now)
-    (store (g.D.Die.state c.move_record.new.die) c.move_record.new.map c.move_record.new.book c.move_record.new.seq)) fault c.in_err-move_record.ensures.ends))
+    (store (g.D.Die.state c.move_record.new.self.die.now) c.move_record.new.map c.move_record.new.self.book.now c.move_record.new.self.seq.now)) fault c.in_err-move_record.ensures.ends)))
 
 pub returns-in_default-find_first-clause-read_failed : goal.returns-in_default-find_first-clause-read_failed
 returns-in_default-find_first-clause-read_failed g c =
