@@ -10,3 +10,4 @@ pub mod Steps
 pub mod Desk
 pub mod Settles
 pub mod Inside
+pub mod Turns
