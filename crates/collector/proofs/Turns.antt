@@ -55,12 +55,14 @@ module _ {D C : Type 0} {state : D → DieState} {meaning : C → Meaning} (old 
   -- page i of the victim
   module _ (victim i : ℕ) (turn : Turn) (is : turn.page ≡ victim * (state old.die.now).shape.pages + i) (within : i < (state old.die.now).shape.pages) (moves : List Move) where
     pub page_next : Begun (geometry_on state meaning old table) victim turn.spare start
-        → Reached (geometry_on state meaning old table) (meaning old.scheme.now).decoding victim turn.spare start (store_on state new table) (i * (meaning old.scheme.now).generations) i turn.copies moves
+        → Reached (geometry_on state meaning old table) (meaning old.scheme.now).decoding victim turn.spare start (store_on state new table)
+        (i * (meaning old.scheme.now).generations) i turn.copies moves
         → (state old.die.now).shape.pages ≤ length moves → (meaning old.scheme.now).page_bytes ≡ (state old.die.now).shape.main_bytes → BeforePage state meaning new table start turn moves
     page_next begun reached room bytes =
         moved_to (λ (s : Shape) (m : Meaning). Stands (geometry_of s m (length table)) m turn.spare start (store_on state new table) (first_slot turn.page) (turn.page % s.pages) turn.copies moves)
         (state old.die.now).shape (state new.die.now).shape (meaning old.scheme.now) (meaning new.scheme.now) stays.kept.shape stays.scheme
-        (page_before (geometry_on state meaning old table) (meaning old.scheme.now) victim turn.spare start i turn.page is within (store_on state new table) turn.copies moves begun reached room refl bytes)
+        (page_before (geometry_on state meaning old table) (meaning old.scheme.now) victim turn.spare start i turn.page is within (store_on state new table) turn.copies moves
+        begun reached room refl bytes)
 
     module _ (last : Desk D C) where
       by_old : (result : Result ℕ PutFault) → EndsBefore state meaning new last table start turn (meaning new.scheme.now).generations moves result

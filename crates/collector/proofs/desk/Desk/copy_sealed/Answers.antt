@@ -1,5 +1,5 @@
 -- The copies are made, the seal is charged, and map and book are settled.
-use Rattle.std.proofs.Common.{◌≡◌, inl, inr, ◌*◌, ◌<◌, ℕ, sym, ap, ◌∙◌, subst, arith}
+use Rattle.std.proofs.Common.{inl, inr, ◌*◌, ◌<◌, ℕ, sym, ap, ◌∙◌, subst, arith}
 use Rattle.std.proofs.lemmas.List.{length-take-le}
 use Rattle.cell_die.specs.declared.shape.Shape.{Shape}
 use Rattle.cell_die.specs.DieState.{page_count}

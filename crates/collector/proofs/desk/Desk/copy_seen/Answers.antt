@@ -1,10 +1,11 @@
 -- The slots of a page one after another, two or three of them; its cells stay meanwhile.
-use Rattle.std.proofs.Common.{◌≡◌, ◌+◌, ◌<◌, ℕ, Bool, if◌then◌else◌, Ok, Err, drop, sym, ap, ◌∙◌, subst, arith}
+use Rattle.std.proofs.Common.{◌≡◌, ◌<◌, ℕ, Bool, if◌then◌else◌, Ok, Err, drop, sym, ap, ◌∙◌, subst, arith}
 use Rattle.std.proofs.lemmas.Bool.{eq-eqb}
 use Rattle.cell_die.specs.Cells.{page_at}
 use Rattle.striped.specs.Meaning.{Meaning}
 use Rattle.page_codec.specs.Seen.{seen_slot, no_slot}
 use Rattle.page_codec.specs.declared.seen.Seen.{Seen}
+use Rattle.collector.specs.declared.scan.Turn.{Turn}
 use Rattle.collector.specs.Turns.{EndsBefore}
 use Rattle.collector.proofs.Desks.{stays_trans}
 use Rattle.collector.proofs.Turns.{ends_since, slots_two, slot_next, header_next}
@@ -51,6 +52,7 @@ returns-then-generations-eq2-clause-ends g c start stands =
 
 pub copy_slot-requires-3-clause-stands : goal.copy_slot-requires-3-clause-stands
 copy_slot-requires-3-clause-stands g c =
+    let second : Turn = record { spare = c.args.turn.spare; page = c.args.turn.page; copies = c.in-Ok.copies } in
     let s1 = c.requires.stands.1 in
     let e1 = c.in-Ok.ensures.ends c.requires.stands.0 s1 in
     let two = slots_two c.args.self.now c.copy_slot.new.self c.copy_slot.ensures.stays c.args.map.now c.requires.stands.0 c.args.turn 0 c.args.moves.now s1 in
@@ -65,12 +67,13 @@ copy_slot-requires-3-clause-stands g c =
       ap (λ (m : Meaning). m.generations) c.copy_slot-2.ensures.stays.scheme,
       ap (λ (m : Meaning). m.generations) c.copy_slot.ensures.stays.scheme,
     ) in
-    let s3 = slot_next c.copy_slot.new.self c.copy_slot-2.new.self c.copy_slot-2.ensures.stays c.args.map.now c.requires.stands.0 (record { spare = c.args.turn.spare; page = c.args.turn.page; copies = c.in-Ok.copies }) 1 c.copy_slot.new.moves s2
+    let s3 = slot_next c.copy_slot.new.self c.copy_slot-2.new.self c.copy_slot-2.ensures.stays c.args.map.now c.requires.stands.0 second 1 c.copy_slot.new.moves s2
     c.in-Ok-copy_slot.copies c.copy_slot-2.new.moves e2 three c.copy_slot-2.auto.moves in
     (c.requires.stands.0, s3)
 
 pub copy_slot-requires-3-clause-header : goal.copy_slot-requires-3-clause-header
 copy_slot-requires-3-clause-header g c =
+    let second : Turn = record { spare = c.args.turn.spare; page = c.args.turn.page; copies = c.in-Ok.copies } in
     let s1 = c.requires.stands.1 in
     let e1 = c.in-Ok.ensures.ends c.requires.stands.0 s1 in
     let two = slots_two c.args.self.now c.copy_slot.new.self c.copy_slot.ensures.stays c.args.map.now c.requires.stands.0 c.args.turn 0 c.args.moves.now s1 in
@@ -92,11 +95,12 @@ copy_slot-requires-3-clause-header g c =
     (eq-eqb (g.C.Scheme.meaning c.args.self.now.scheme.now).generations 3 all)
     ∙ (header_next c.args.self.now c.copy_slot.new.self c.copy_slot.ensures.stays c.args.map.now c.requires.stands.0 c.args.turn 0 c.args.moves.now s1
     c.in-Ok.copies c.copy_slot.new.moves e1 2
-    ∙ header_next c.copy_slot.new.self c.copy_slot-2.new.self c.copy_slot-2.ensures.stays c.args.map.now c.requires.stands.0 (record { spare = c.args.turn.spare; page = c.args.turn.page; copies = c.in-Ok.copies }) 1 c.copy_slot.new.moves s2
+    ∙ header_next c.copy_slot.new.self c.copy_slot-2.new.self c.copy_slot-2.ensures.stays c.args.map.now c.requires.stands.0 second 1 c.copy_slot.new.moves s2
     c.in-Ok-copy_slot.copies c.copy_slot-2.new.moves (c.in-Ok-copy_slot.ensures.ends c.requires.stands.0 s2) 2))
 
 pub returns-clause-ends : goal.returns-clause-ends
 returns-clause-ends g c start stands =
+    let second : Turn = record { spare = c.args.turn.spare; page = c.args.turn.page; copies = c.in-Ok.copies } in
     let s1 = stands in
     let e1 = c.in-Ok.ensures.ends start s1 in
     let two = slots_two c.args.self.now c.copy_slot.new.self c.copy_slot.ensures.stays c.args.map.now start c.args.turn 0 c.args.moves.now s1 in
@@ -111,7 +115,7 @@ returns-clause-ends g c start stands =
       ap (λ (m : Meaning). m.generations) c.copy_slot-2.ensures.stays.scheme,
       ap (λ (m : Meaning). m.generations) c.copy_slot.ensures.stays.scheme,
     ) in
-    let s3 = slot_next c.copy_slot.new.self c.copy_slot-2.new.self c.copy_slot-2.ensures.stays c.args.map.now start (record { spare = c.args.turn.spare; page = c.args.turn.page; copies = c.in-Ok.copies }) 1 c.copy_slot.new.moves s2
+    let s3 = slot_next c.copy_slot.new.self c.copy_slot-2.new.self c.copy_slot-2.ensures.stays c.args.map.now start second 1 c.copy_slot.new.moves s2
     c.in-Ok-copy_slot.copies c.copy_slot-2.new.moves e2 three c.copy_slot-2.auto.moves in
     let all : 3 ≡ (g.C.Scheme.meaning c.args.self.now.scheme.now).generations =
     omega (arith, three, ap (λ (m : Meaning). m.generations) c.copy_slot.ensures.stays.scheme, s1.begun.tables.kept.three_generations, s1.begun.tables.sizes.generations) in
