@@ -13,9 +13,9 @@ use Rattle.page_codec.specs.declared.fault.PutFault.{PutFault}
 use Rattle.page_codec.specs.Sizes.{Serves, ServesScheme}
 use Rattle.collector.specs.declared.desk.Desk.{Desk}
 use Rattle.collector.specs.declared.live.LiveRecord.{LiveRecord}
-use Rattle.collector.specs.Again.{AgainEnds}
+use Rattle.collector.specs.Again.{AgainEnds, MoveEnds}
 use Rattle.collector.specs.Steps.{CopyEnds}
-use Rattle.collector.specs.Store.{Store, store, geometry_of}
+use Rattle.collector.specs.Store.{Store, store, geometry_of, IsTrueStore, Holds}
 
 -- the desk holds the references that it held
 abbrev pub SameDesk : {D C : Type 0} → Desk D C → Desk D C → Type 0
@@ -28,16 +28,15 @@ module _ {D C : Type 0} (state : D → DieState) where
     pub there : page < page_count (state desk.die.now).shape
     pub blank : is_blank (page_of (state desk.die.now) page) ≡ true
 
+  -- A page of the spare is ready for a copy.
+  pub record IsReady (desk : Desk D C) (spare page : ℕ) : Type 0 where
+    pub free : IsFree desk page
+    pub is_spare : IsSpare desk.book.now spare
+    pub fresh : desk.seq.now + 1 < 2 ^ 64
+
   -- what the desk and a map stand for
   abbrev pub store_on : Desk D C → List (Option Entry) → Store
   store_on desk table = store (state desk.die.now) table desk.book.now desk.seq.now
-
-  -- A page of the spare is ready for a copy.
-  pub record IsReady (desk : Desk D C) (spare page : ℕ) : Type 0 where
-    pub there : page < page_count (state desk.die.now).shape
-    pub blank : is_blank (page_of (state desk.die.now) page) ≡ true
-    pub is_spare : IsSpare desk.book.now spare
-    pub fresh : desk.seq.now + 1 < 2 ^ 64
 
 module _ {D C : Type 0} (state : D → DieState) (meaning : C → Meaning) where
   -- The room of the codec serves the die and the scheme, whose sectors are small.
@@ -65,3 +64,15 @@ module _ {D C : Type 0} (state : D → DieState) (meaning : C → Meaning) where
   -- the desk and a map, as a device
   abbrev pub geometry_on : Desk D C → List (Option Entry) → Geometry
   geometry_on desk table = geometry_of (state desk.die.now).shape (meaning desk.scheme.now) (length table)
+
+  -- the map and the book are true to the cells
+  abbrev pub DeskTrue : Desk D C → List (Option Entry) → Type 0
+  DeskTrue desk table = IsTrueStore (geometry_on desk table) (store_on state desk table)
+
+  -- what every call keeps, of the desk and of the map
+  abbrev pub DeskHolds : Desk D C → List (Option Entry) → Desk D C → List (Option Entry) → Type 0
+  DeskHolds old table new after = Holds (geometry_on old table) (store_on state old table) (store_on state new after)
+
+  -- how the move of a live record to a page ends
+  abbrev pub DeskMoves : {T : Type 0} → LiveRecord → ℕ → Result T PutFault → Desk D C → List (Option Entry) → Desk D C → List (Option Entry) → Type 0
+  DeskMoves live page result old table new after = MoveEnds (geometry_on old table) (meaning old.scheme.now) live page result (store_on state old table) (store_on state new after)

@@ -5,11 +5,11 @@ ghost use Rattle.block_state.specs.Book.{live_at, state_at};
 ghost use Rattle.page_alloc.specs.CleanPage.{IsCollectBranch};
 ghost use Rattle.page_codec.specs.Sizes.{Serves, ServesScheme};
 ghost use Rattle.page_codec.specs.TrueBook.{IsTrue};
-ghost use Rattle.collector.specs.Desk.{SameDesk, Fits, Stays, geometry_on, store_on};
-ghost use Rattle.collector.specs.Store.{geometry_of, store, Holds, IsTrueStore};
+ghost use Rattle.collector.specs.Desk.{SameDesk, Fits, Stays, DeskTrue, DeskHolds};
+ghost use Rattle.collector.specs.Store.{geometry_of, store, Holds};
 ghost use Rattle.collector.specs.Collections.{Collected, CollectReadFailed, CollectChangeFailed};
 ghost use Rattle.collector.specs.Erases.{erased_in, EraseEnds};
-ghost use Rattle.collector.specs.Inside.{Begun, CollectEnds};
+ghost use Rattle.collector.specs.Turns.{DeskBegins, DeskCollects};
 
 use crate::blank::blank_spare;
 use crate::desk::Desk;
@@ -33,12 +33,11 @@ impl<D: Die, C: Scheme> Desk<'_, D, C> {
     ) -> Result<u32, PutFault>
         requires fits { Fits D.state C.meaning self.old }
         requires small_page { (C.meaning self.old.scheme.now).page_bytes ≤ 1200 }
-        requires begun { Begun (geometry_on D.state C.meaning self.old map.old) victim spare (store_on D.state self.old map.old) }
+        requires begun { DeskBegins D.state C.meaning victim spare self.old map.old }
         requires some_live { 0 < live_at self.old.book.now victim }
         requires room { (D.state self.old.die.now).shape.pages ≤ length moves.old }
-        ensures holds { Holds (geometry_on D.state C.meaning self.old map.old) (store_on D.state self.old map.old) (store_on D.state self.new map.new) }
-        ensures ends { CollectEnds (geometry_on D.state C.meaning self.old map.old) (C.meaning self.old.scheme.now).decoding victim spare
-            (store_on D.state self.old map.old) (store_on D.state self.new map.new) result }
+        ensures holds { DeskHolds D.state C.meaning self.old map.old self.new map.new }
+        ensures ends { DeskCollects D.state C.meaning victim spare result self.old map.old self.new map.new }
         ensures stays { Stays D.state C.meaning self.old self.new }
         ensures same_desk { SameDesk self.old self.new }
     {
@@ -66,14 +65,13 @@ impl<D: Die, C: Scheme> Desk<'_, D, C> {
     ) -> Result<u32, PutFault>
         requires fits { Fits D.state C.meaning self.old }
         requires small_page { (C.meaning self.old.scheme.now).page_bytes ≤ 1200 }
-        requires tables { IsTrueStore (geometry_on D.state C.meaning self.old map.old) (store_on D.state self.old map.old) }
+        requires tables { DeskTrue D.state C.meaning self.old map.old }
         requires fresh { self.old.seq.now < 2 ^ 62 }
         requires branch { IsCollectBranch self.old.book.now victim spare }
         requires few { live_at self.old.book.now victim < self.old.book.now.pages }
         requires room { self.old.book.now.pages ≤ length moves.old }
-        ensures holds { Holds (geometry_on D.state C.meaning self.old map.old) (store_on D.state self.old map.old) (store_on D.state self.new map.new) }
-        ensures ends { CollectEnds (geometry_on D.state C.meaning self.old map.old) (C.meaning self.old.scheme.now).decoding victim spare
-            (store_on D.state self.old map.old) (store_on D.state self.new map.new) result }
+        ensures holds { DeskHolds D.state C.meaning self.old map.old self.new map.new }
+        ensures ends { DeskCollects D.state C.meaning victim spare result self.old map.old self.new map.new }
         ensures erased { EraseEnds (erased_in (state_at self.old.book.now spare) spare) result (D.state self.old.die.now) (D.state self.new.die.now) }
         ensures same_scheme { C.meaning self.new.scheme.now ≡ C.meaning self.old.scheme.now }
         ensures same_work { self.new.work.now ≡ self.old.work.now }

@@ -6,9 +6,9 @@ ghost use Rattle.sector_map.specs.Entry.{place_of};
 ghost use Rattle.page_codec.specs.Puts.{first_slot};
 ghost use Rattle.page_codec.specs.Sizes.{Serves, ServesScheme};
 ghost use Rattle.page_codec.specs.TrueBook.{IsTrue, entry_of};
-ghost use Rattle.collector.specs.Store.{geometry_of, store, Holds, IsTrueStore};
-ghost use Rattle.collector.specs.Desk.{SameDesk, Fits, Stays, geometry_on, store_on};
-ghost use Rattle.collector.specs.Again.{IsNextPage, IsLive, MoveEnds};
+ghost use Rattle.collector.specs.Store.{geometry_of, store, Holds};
+ghost use Rattle.collector.specs.Desk.{SameDesk, Fits, Stays, geometry_on, DeskTrue, DeskHolds, DeskMoves};
+ghost use Rattle.collector.specs.Again.{IsNextPage, IsLive};
 ghost use Rattle.collector.specs.Moves.{Moved, MoveReadFailed, MoveChangeFailed, NoMoveLeft};
 
 use crate::again::says_zeros;
@@ -69,13 +69,12 @@ impl<D: Die, C: Scheme> Desk<'_, D, C> {
         page: u32,
     ) -> Result<(), PutFault>
         requires fits { Fits D.state C.meaning self.old }
-        requires tables { IsTrueStore (geometry_on D.state C.meaning self.old map.old) (store_on D.state self.old map.old) }
+        requires tables { DeskTrue D.state C.meaning self.old map.old }
         requires fresh { self.old.seq.now < 2 ^ 62 }
         requires live { IsLive (geometry_on D.state C.meaning self.old map.old) (D.state self.old.die.now).cells live.now }
         requires next { (room : ℕ) × IsNextPage self.old.book.now page room }
-        ensures holds { Holds (geometry_on D.state C.meaning self.old map.old) (store_on D.state self.old map.old) (store_on D.state self.new map.new) }
-        ensures ends { MoveEnds (geometry_on D.state C.meaning self.old map.old) (C.meaning self.old.scheme.now) live.now page result
-            (store_on D.state self.old map.old) (store_on D.state self.new map.new) }
+        ensures holds { DeskHolds D.state C.meaning self.old map.old self.new map.new }
+        ensures ends { DeskMoves D.state C.meaning live.now page result self.old map.old self.new map.new }
         ensures stays { Stays D.state C.meaning self.old self.new }
         ensures same_desk { SameDesk self.old self.new }
     {

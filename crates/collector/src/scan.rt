@@ -5,11 +5,10 @@ ghost use Rattle.cell_die.specs.DieState.{page_count, page_of};
 ghost use Rattle.sector_map.specs.Entry.{entry_at};
 ghost use Rattle.page_codec.specs.Records.{header_in};
 ghost use Rattle.page_codec.specs.Seen.{seen_page};
-ghost use Rattle.collector.specs.Desk.{SameDesk, Fits, Stays, geometry_on, store_on};
+ghost use Rattle.collector.specs.Desk.{SameDesk, Fits, Stays, geometry_on};
 ghost use Rattle.collector.specs.Store.{Store};
-ghost use Rattle.collector.specs.Inside.{Begun, TurnEnds};
 ghost use Rattle.collector.specs.Named.{names_slot};
-ghost use Rattle.collector.specs.Turns.{BeforePage, BeforeSlot, EndsBefore};
+ghost use Rattle.collector.specs.Turns.{BeforePage, BeforeSlot, EndsBefore, DeskBegins, DeskScans};
 
 use crate::again::says_zeros;
 use crate::desk::Desk;
@@ -143,11 +142,9 @@ impl<D: Die, C: Scheme> Desk<'_, D, C> {
         spare: u32,
     ) -> Result<u32, PutFault>
         requires fits { Fits D.state C.meaning self.old }
-        requires begun { Begun (geometry_on D.state C.meaning self.old map.now) victim spare (store_on D.state self.old map.now) }
+        requires begun { DeskBegins D.state C.meaning victim spare self.old map.now }
         requires room { (D.state self.old.die.now).shape.pages ≤ length moves.old }
-        ensures ends { TurnEnds (geometry_on D.state C.meaning self.old map.now) (C.meaning self.old.scheme.now).decoding victim spare
-            (store_on D.state self.old map.now) (store_on D.state self.new map.now)
-            ((D.state self.old.die.now).shape.pages * (C.meaning self.old.scheme.now).generations) (D.state self.old.die.now).shape.pages moves.new result }
+        ensures ends { DeskScans D.state C.meaning victim spare moves.new result self.old self.new map.now }
         ensures stays { Stays D.state C.meaning self.old self.new }
         ensures same_desk { SameDesk self.old self.new }
     {

@@ -90,5 +90,6 @@ returns-clause-ends g c =
     let geometry = geometry_on g.D.Die.state g.C.Scheme.meaning c.args.self.now c.args.map.now in
     let meaning = g.C.Scheme.meaning c.args.self.now.scheme.now in
     let all : c.loop-i.i ≡ (g.D.Die.state c.args.self.now.die.now).shape.pages = omega (arith, c.loop-i-test.false, c.loop-i.auto.i-end, same) in
-    subst (λ (k : ℕ). Reached geometry meaning.decoding c.args.victim c.args.spare start (store_on g.D.Die.state c.loop-i.self c.args.map.now) (k * meaning.generations) k c.loop-i.copies c.loop-i.moves)
+    let now = store_on g.D.Die.state c.loop-i.self c.args.map.now in
+    subst (λ (k : ℕ). Reached geometry meaning.decoding c.args.victim c.args.spare start now (k * meaning.generations) k c.loop-i.copies c.loop-i.moves)
     all c.loop-i.invariant.reached

@@ -31,8 +31,7 @@ copy_record-requires-clause-ready g c =
     let named = sym c.is_live.ensures.named ∙ c.if-not-is_live.false in
     let page = found_at c.requires.stands.1 c.pages.ensures.value in
     record {
-      there = found_page c.requires.stands.1 there named page;
-      blank = found_blank c.requires.stands.1 there named page;
+      free = record { there = found_page c.requires.stands.1 there named page; blank = found_blank c.requires.stands.1 there named page };
       is_spare = found_spare c.requires.stands.1;
       fresh = found_seq c.requires.stands.1 there named;
     }
