@@ -123,6 +123,9 @@ pub record SparesIn (g : Geometry) (spare : ℕ) (now : Store) : Type 0 where
   pub shaped : IsShaped now.die
   pub is_spare : IsSpare now.book spare
 
+pub spares_in : (g : Geometry) (spare : ℕ) (now : Store) → IsTrueStore g now → now.die.shape ≡ shape_of g → IsShaped now.die → IsSpare now.book spare → SparesIn g spare now
+spares_in g spare now tables shape shaped is_spare = record { tables = tables; shape = shape; shaped = shaped; is_spare = is_spare }
+
 module _ (g : Geometry) (spare : ℕ) (now : Store) (s : SparesIn g spare now) where
   pub spare_there : spare < g.blocks
   spare_there = omega (arith, spare_within now.book spare s.is_spare, s.tables.sizes.blocks)

@@ -43,7 +43,7 @@ use Rattle.collector.proofs.Stops.{reached_skip, reached_take, read_stops, chang
 abbrev pub placed_at : Place → Header → Placed
 placed_at place h = record { place = place; header = h }
 
-module _ (g : Geometry) (meaning : Meaning) (spare : ℕ) (start now : Store) (place : Place) (pages copies : ℕ) (moves : List Move) (s : Stands g meaning spare start now place pages copies moves) where
+module _ {g : Geometry} {meaning : Meaning} {spare : ℕ} {start now : Store} {place : Place} {pages copies : ℕ} {moves : List Move} (s : Stands g meaning spare start now place pages copies moves) where
   one_slot : 1 ≤ g.generations
   one_slot = omega (arith, two_slots g meaning.decoding (block_of g place.page) spare start s.begun)
 
@@ -60,6 +60,19 @@ module _ (g : Geometry) (meaning : Meaning) (spare : ℕ) (start now : Store) (p
       sum : (a b : ℕ) → a + b + 1 ≡ a + (b + 1)
       sum a b = omega arith
 
+  pub found_spare : IsSpare now.book spare
+  found_spare = spare_still g meaning.decoding (block_of g place.page) spare start s.begun now s.reached.records s.reached.inside
+
+  pub found_pages : now.book.pages ≡ g.pages
+  found_pages = elim s.reached.inside.book [
+    | inl unmarked ↦ ap (λ (v : BookValue). v.pages) unmarked.0 ∙ s.begun.tables.sizes.pages
+    | inr marked ↦ ap (λ (v : BookValue). v.pages) marked ∙ s.begun.tables.sizes.pages
+  ]
+
+  -- the page of the next copy
+  pub found_at : {n : ℕ} → n ≡ now.book.pages → spare * n + copies ≡ spare * g.pages + copies
+  found_at same = ap (λ (n : ℕ). spare * n + copies) (same ∙ found_pages)
+
   -- no live record in the slot
   pub slot_skipped : ((h : Header) → header_in g now.die.cells place ≡ Some h → names_slot (entry_at now.table h.sector) place ≡ false)
       → Reached g meaning.decoding (block_of g place.page) spare start now (place.page % g.pages * g.generations + (place.slot + 1)) pages copies moves
@@ -69,7 +82,7 @@ module _ (g : Geometry) (meaning : Meaning) (spare : ℕ) (start now : Store) (p
       (unnamed_none g start.die.cells (block_of g place.page) place one_slot s.slot refl
       (λ h e. subst (λ table. names_slot (entry_at table h.sector) place ≡ false) table_is (none h (sym header_was ∙ e)))))
 
-  module _ (h : Header) (there : header_in g now.die.cells place ≡ Some h) (named : names_slot (entry_at now.table h.sector) place ≡ true) where
+  module _ {h : Header} (there : header_in g now.die.cells place ≡ Some h) (named : names_slot (entry_at now.table h.sector) place ≡ true) where
     live : live_record g start.die.cells h.sector ≡ Some (placed_at place h)
     live = named_there g start.die.cells place h (header_was ∙ there) (subst (λ table. names_slot (entry_at table h.sector) place ≡ true) table_is named)
 
@@ -89,24 +102,15 @@ module _ (g : Geometry) (meaning : Meaning) (spare : ℕ) (start now : Store) (p
     pub found_few : g.pages ≤ 128
     found_few = omega (arith, s.begun.tables.kept.few_pages, s.begun.tables.sizes.pages)
 
-    pub found_page : spare * g.pages + copies < page_count g
-    found_page = let more : spare + 1 ≤ g.blocks = omega (arith, s.begun.spare_there) in omega (arith, found_room, mul-le-mul_right g.pages more, suc-mul spare g.pages)
+    pub found_page : {page : ℕ} → page ≡ spare * g.pages + copies → page < page_count g
+    found_page is_page = let more : spare + 1 ≤ g.blocks = omega (arith, s.begun.spare_there) in omega (arith, is_page, found_room, mul-le-mul_right g.pages more, suc-mul spare g.pages)
 
-    pub found_blank : is_blank (page_at now.die.cells (spare * g.pages + copies)) ≡ true
-    found_blank = subst (λ (n : ℕ). is_blank (page_at now.die.cells (spare * g.pages + n)) ≡ true) (sym s.reached.copied)
+    pub found_blank : {page : ℕ} → page ≡ spare * g.pages + copies → is_blank (page_at now.die.cells page) ≡ true
+    found_blank is_page = subst (λ (q : ℕ). is_blank (page_at now.die.cells q) ≡ true) (sym (is_page ∙ ap (λ (n : ℕ). spare * g.pages + n) s.reached.copied))
         (s.reached.inside.taking.blank (length s.reached.records) (omega arith) (omega (arith, found_room, s.reached.copied)))
-
-    pub found_spare : IsSpare now.book spare
-    found_spare = spare_still g meaning.decoding (block_of g place.page) spare start s.begun now s.reached.records s.reached.inside
 
     pub found_seq : now.seq + 1 < 2 ^ 64
     found_seq = omega (arith, s.reached.inside.seq, s.reached.copied, found_room, found_few, s.begun.fresh)
-
-    pub found_pages : now.book.pages ≡ g.pages
-    found_pages = elim s.reached.inside.book [
-      | inl unmarked ↦ ap (λ (v : BookValue). v.pages) unmarked.0 ∙ s.begun.tables.sizes.pages
-      | inr marked ↦ ap (λ (v : BookValue). v.pages) marked ∙ s.begun.tables.sizes.pages
-    ]
 
     -- the pages that the record is got from stand on the die
     pub found_reads : place.page + reads_of meaning place ≤ page_count g
@@ -127,8 +131,19 @@ module _ (g : Geometry) (meaning : Meaning) (spare : ℕ) (start now : Store) (p
         in_die : place.page < page_count g
         in_die = (holds_within g place one_slot (live_so g start.die.cells h.sector (placed_at place h) live).so.holds).0
 
+    reads_few : pages + passed_gets g start.die.cells (block_of g place.page) (number_of g place) + copy_reads meaning place h ≤ collection_reads g start.die.cells (block_of g place.page)
+    reads_few =
+        let same : copy_reads meaning place h ≡ get_reads g (Some (placed_at place h)) = ap (λ (n : ℕ). if says_zeros h then 0 else (if place.slot == 0 then 1 else n)) s.span in
+        omega (
+          arith,
+          same,
+          s.few_pages,
+          gets_take g start.die.cells (block_of g place.page) one_slot (number_of g place) (placed_at place h) live refl refl,
+          gets_few g start.die.cells (block_of g place.page) s.begun.some_pages one_slot (number_of g place + 1),
+        )
+
     -- how the copy ends
-    module _ (small : h.sector < 2 ^ 32) (page : ℕ) (is_page : page ≡ spare * g.pages + copies) (new : DieState) (after : BookValue) (next : ℕ) (kept : Kept now.die new)
+    module _ (small : h.sector < 2 ^ 32) {page : ℕ} (is_page : page ≡ spare * g.pages + copies) {new : DieState} (after : BookValue) (next : ℕ) (kept : Kept now.die new)
         (shaped : IsShaped now.die) (shaped_new : IsShaped new) (decodes : Decodes meaning) where
       copies_of : PutsDrawn (SaysSame meaning now.die place h page) spare page (copied_header h now.seq) now.die now.book now.seq new after next
           → Copies g meaning (block_of g place.page) spare start now (number_of g place) s.reached.records (placed_at place h) new after next
@@ -160,17 +175,6 @@ module _ (g : Geometry) (meaning : Meaning) (spare : ℕ) (start now : Store) (p
           (copies_of ends.0)
           (subst (λ (q : ℕ). is_gated new (first_slot q) ≡ true) (is_page ∙ ap (λ (n : ℕ). spare * g.pages + n) s.reached.copied) ends.1)
           ends.2 (omega (arith, found_room, s.room)))
-
-      reads_few : pages + passed_gets g start.die.cells (block_of g place.page) (number_of g place) + copy_reads meaning place h ≤ collection_reads g start.die.cells (block_of g place.page)
-      reads_few =
-          let same : copy_reads meaning place h ≡ get_reads g (Some (placed_at place h)) = ap (λ (n : ℕ). if says_zeros h then 0 else (if place.slot == 0 then 1 else n)) s.span in
-          omega (
-            arith,
-            same,
-            s.few_pages,
-            gets_take g start.die.cells (block_of g place.page) one_slot (number_of g place) (placed_at place h) live refl refl,
-            gets_few g start.die.cells (block_of g place.page) s.begun.some_pages one_slot (number_of g place + 1),
-          )
 
       pub slot_failed : (T : Type 0) (fault : PutFault) → CopyEnds {T = T} meaning spare page place h (Err fault) now.die now.book now.seq new after next
           → TurnEnds g meaning.decoding (block_of g place.page) spare start (store new now.table after next) (place.page % g.pages * g.generations + (place.slot + 1)) pages moves (Err fault)

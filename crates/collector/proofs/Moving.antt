@@ -63,12 +63,12 @@ geometry_shape sizes shape meaning sectors serves scheme =
     let spare : shape.spare_bytes ≡ 16 * meaning.generations = omega (arith, serves.spare_bytes, scheme.generations) in
     λ i. record { blocks = shape.blocks; pages = shape.pages; main_bytes = shape.main_bytes; spare_bytes = spare i }
 
-pub is_moving : (sizes : Sizes) (meaning : Meaning) (live : LiveRecord) (page : ℕ) (die : DieState) (book : BookValue) (table : List (Option Entry)) (seq : ℕ) → Serves sizes die.shape
+pub is_moving : {sizes : Sizes} {meaning : Meaning} {live : LiveRecord} {page : ℕ} {die : DieState} {book : BookValue} {table : List (Option Entry)} {seq : ℕ} → Serves sizes die.shape
     → ServesScheme sizes meaning
     → Decodes meaning → IsShaped die → IsTrue (geometry_of die.shape meaning (length table)) die.cells book table seq → seq < 2 ^ 62
     → IsLive (geometry_of die.shape meaning (length table)) die.cells live
     → (room : ℕ) × IsNextPage book page room → IsMoving (geometry_of die.shape meaning (length table)) meaning live page die book table seq
-is_moving sizes meaning live page die book table seq serves scheme decodes shaped tables fresh is_live next = record {
+is_moving {sizes} {meaning} {live} {page} {die} {book} {table} {seq} serves scheme decodes shaped tables fresh is_live next = record {
   shape = geometry_shape sizes die.shape meaning (length table) serves scheme;
   main_bytes = scheme.page_bytes ∙ sym serves.main_bytes;
   span = refl;
@@ -111,7 +111,7 @@ entry_again place h seq =
 units_fit : (w s : ℕ) → w / s * s ≤ w
 units_fit w s = omega (arith, div-add-mod' w s)
 
-module _ (g : Geometry) (meaning : Meaning) (live : LiveRecord) (page : ℕ) (die : DieState) (book : BookValue) (table : List (Option Entry)) (seq : ℕ)
+module _ {g : Geometry} {meaning : Meaning} {live : LiveRecord} {page : ℕ} {die : DieState} {book : BookValue} {table : List (Option Entry)} {seq : ℕ}
     (m : IsMoving g meaning live page die book table seq) where
   abbrev block : ℕ
   block = m.next.1.block
@@ -169,7 +169,7 @@ module _ (g : Geometry) (meaning : Meaning) (live : LiveRecord) (page : ℕ) (di
 
   -- ---- after the put
 
-  module _ (new : DieState) (p : PutsAgain meaning live page die seq new) (kept : Kept die new) (shaped_new : IsShaped new) where
+  module _ {new : DieState} (p : PutsAgain meaning live page die seq new) (kept : Kept die new) (shaped_new : IsShaped new) where
     pub puts_next : PutsNext g m.next.1.block m.next.1.fill (again live.header seq) die.cells new.cells
     puts_next = next_put g block fill moved die new book table seq (subst (λ (q : ℕ). Puts (SaysSame meaning die live.place live.header page) 1 (first_slot q) moved die new) at_page p)
         m.shape kept.shape m.shaped shaped_new
@@ -205,18 +205,23 @@ module _ (g : Geometry) (meaning : Meaning) (live : LiveRecord) (page : ℕ) (di
 
     -- ---- the record effect
 
-    module _ (entry : Entry) (placed : place_of entry ≡ record { page = page; slot = 0 }) where
+    -- on the book that the put leaves
+    module _ (entry : Entry) (placed : place_of entry ≡ record { page = page; slot = 0 }) {left_book : BookValue} (same : left_book ≡ book) where
       placed_next : place_of entry ≡ record { page = next_page g m.next.1.block m.next.1.fill; slot = 0 }
       placed_next = placed ∙ (λ i. record { page = at_page i; slot = 0 })
 
       -- what it asks
-      pub moving_may_record : MayRecord book table live.header.sector entry
-      moving_may_record = next_may_record g block fill moved die.cells new.cells puts_next book table seq m.tables m.next.1.active m.sectors entry placed_next
+      pub moving_may_record : MayRecord left_book table live.header.sector entry
+      moving_may_record = subst (λ (b : BookValue). MayRecord b table live.header.sector entry) (sym same)
+          (next_may_record g block fill moved die.cells new.cells puts_next book table seq m.tables m.next.1.active m.sectors entry placed_next)
 
       -- and what it leaves
       module _ (table' : List (Option Entry)) (book' : BookValue) (seq' : ℕ) (gated : is_gated new (first_slot page) ≡ true) (drawn : seq' ≡ seq + 1)
           (names : entry_of (Some (record { place = first_slot page; header = live.header })) ≡ Some entry) (map_is : table' ≡ slice_set table live.header.sector (Some entry))
-          (book_is : book' ≡ after_record book (block_in book entry) (former_in book (entry_at table live.header.sector))) where
+          (effect : book' ≡ after_record left_book (block_in left_book entry) (former_in left_book (entry_at table live.header.sector))) where
+        book_is : book' ≡ after_record book (block_in book entry) (former_in book (entry_at table live.header.sector))
+        book_is = subst (λ (b : BookValue). book' ≡ after_record b (block_in b entry) (former_in b (entry_at table live.header.sector))) same effect
+
         entry_moved : entry_of (Some (record { place = first_slot (next_page g m.next.1.block m.next.1.fill); header = again live.header seq })) ≡ Some entry
         entry_moved = ap (λ (q : ℕ). entry_of (Some (record { place = first_slot q; header = again live.header seq }))) (sym at_page) ∙ (entry_again (first_slot page) live.header seq ∙ names)
 
@@ -246,16 +251,15 @@ module _ (g : Geometry) (meaning : Meaning) (live : LiveRecord) (page : ℕ) (di
 -- ---- how the move fails
 
 -- a put that failed leaves the tables
-pub failed_ends : (g : Geometry) (meaning : Meaning) (live : LiveRecord) (page : ℕ) (old new : DieState) (book : BookValue) (table : List (Option Entry)) (seq seq' : ℕ) (fault : PutFault)
-    → IsMoving g meaning live page old book table seq → Kept old new → IsShaped new → AgainFails meaning live page fault old seq new seq'
-    → MoveFails g meaning live fault (store old table book seq) (store new table book seq')
-failed_ends g meaning live page old new book table seq seq' Read m kept shaped e =
-    ((λ i. record { die = new; table = table; book = book; seq = e.2 i }), e.0, e.1)
-failed_ends g meaning live page old new book table seq seq' Change m kept shaped e =
-    ((λ i. record { die = new; table = table; book = book; seq = e.2 i }), moving_rows g meaning live page old book table seq m new e.0 kept shaped, e.1)
+pub failed_ends : {g : Geometry} {meaning : Meaning} {live : LiveRecord} {page : ℕ} {old new : DieState} {book left_book : BookValue} {table : List (Option Entry)} {seq : ℕ}
+    → IsMoving g meaning live page old book table seq → Kept old new → IsShaped new → left_book ≡ book → (seq' : ℕ) (fault : PutFault) → AgainFails meaning live page fault old seq new seq'
+    → MoveFails g meaning live fault (store old table book seq) (store new table left_book seq')
+failed_ends {new = new} {table = table} m kept shaped same seq' Read e = ((λ i. record { die = new; table = table; book = same i; seq = e.2 i }), e.0, e.1)
+failed_ends {new = new} {table = table} m kept shaped same seq' Change e = ((λ i. record { die = new; table = table; book = same i; seq = e.2 i }), moving_rows m e.0 kept shaped, e.1)
 
-pub failed_holds : (g : Geometry) (meaning : Meaning) (live : LiveRecord) (page : ℕ) (old new : DieState) (book : BookValue) (table : List (Option Entry)) (seq seq' : ℕ) (fault : PutFault)
-    → IsMoving g meaning live page old book table seq → Kept old new → IsShaped new → AgainFails meaning live page fault old seq new seq'
-    → Holds g (store old table book seq) (store new table book seq')
-failed_holds g meaning live page old new book table seq seq' Read m kept shaped e = same_holds g (store old table book seq) (store new table book seq') kept e.0 e.2
-failed_holds g meaning live page old new book table seq seq' Change m kept shaped e = moving_holds g meaning live page old book table seq m new e.0 kept shaped table book seq' e.2
+pub failed_holds : {g : Geometry} {meaning : Meaning} {live : LiveRecord} {page : ℕ} {old new : DieState} {book left_book : BookValue} {table : List (Option Entry)} {seq : ℕ}
+    → IsMoving g meaning live page old book table seq → Kept old new → IsShaped new → left_book ≡ book → (seq' : ℕ) (fault : PutFault) → AgainFails meaning live page fault old seq new seq'
+    → Holds g (store old table book seq) (store new table left_book seq')
+failed_holds {g = g} {old = old} {new = new} {book = book} {left_book = left_book} {table = table} {seq = seq} m kept shaped same seq' Read e =
+    same_holds g (store old table book seq) (store new table left_book seq') kept e.0 e.2
+failed_holds {left_book = left_book} {table = table} m kept shaped same seq' Change e = moving_holds m e.0 kept shaped table left_book seq' e.2

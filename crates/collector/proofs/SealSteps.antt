@@ -1,7 +1,7 @@
 -- How a collection ends at its seal.
-use Rattle.std.proofs.Common.{◌≡◌, ◌⊎◌, inl, inr, ℕ, ◌+◌, ◌-◌, ◌*◌, ◌/◌, ◌%◌, ◌<◌, Bool, true, false, List, [], length, take, ◌==◌, Option, sym, ap, ◌∙◌, subst, arith, length-set, get_or-take}
+use Rattle.std.proofs.Common.{◌≡◌, ◌⊎◌, inl, inr, ℕ, ◌+◌, ◌-◌, ◌*◌, ◌/◌, ◌%◌, ◌<◌, ◌≤◌, Bool, true, false, List, [], length, take, ◌==◌, Option, sym, ap, ◌∙◌, subst, arith, length-set, get_or-take}
 use Rattle.std.proofs.lemmas.Bool.{cases_eq, and_parts, eq-eqb, false≢true}
-use Rattle.std.proofs.lemmas.List.{ext_get_or}
+use Rattle.std.proofs.lemmas.List.{ext_get_or, length-take-le}
 use Rattle.std.proofs.lemmas.Nat.{div-add-mod'}
 use Rattle.cell_die.specs.declared.shape.Shape.{Shape}
 use Rattle.cell_die.specs.Cells.{is_charged, with_charged, charge}
@@ -34,13 +34,14 @@ use Rattle.collector.proofs.Named.{live_map_long}
 use Rattle.collector.proofs.Passing.{count_end, gets_end, scanned_end}
 use Rattle.collector.proofs.Reaching.{spare_still, spare_empty, two_slots, free_spare, fresh_start, live_is, marks_now, rows_now}
 use Rattle.collector.proofs.Sealing.{Seals, copy_cells, copy_is_live, others_live, header_stays, sealed_rows, sealed_sound}
+use Rattle.collector.proofs.BooksSettled.{names_whole}
 use Rattle.collector.proofs.Settled.{Settles, book_is, settled_true}
 use Rattle.collector.proofs.Shapes.{has_shape, page_there}
 use Rattle.collector.proofs.States.{page_in_block}
 use Rattle.collector.proofs.Stops.{calls_are, one_slot}
 
-module _ (g : Geometry) (meaning : Meaning) (victim spare : ℕ) (start now : Store) (copies : ℕ) (moves : List Move) (b : Begun g victim spare start)
-    (r : Reached g meaning.decoding victim spare start now (g.pages * g.generations) g.pages copies moves) (shaped : IsShaped now.die) where
+module _ {g : Geometry} (meaning : Meaning) {victim spare : ℕ} {start now : Store} {copies : ℕ} {moves : List Move} (b : Begun g victim spare start)
+    (r : Reached g meaning.decoding victim spare start now (g.pages * g.generations) g.pages copies moves) where
   pub shape_now : now.die.shape ≡ shape_of g
   shape_now = r.inside.holds.kept.shape ∙ b.shape
 
@@ -61,6 +62,9 @@ module _ (g : Geometry) (meaning : Meaning) (victim spare : ℕ) (start now : St
 
   pub copies_are : copies ≡ live_at start.book victim
   copies_are = r.copied ∙ all_copied
+
+  pub copies_within : {room : ℕ} → g.pages ≤ room → length moves ≡ room → copies ≤ length moves
+  copies_within few long = omega (arith, copies_are, b.few, few, long)
 
   pub book_pages : now.book.pages ≡ g.pages
   book_pages = elim r.inside.book [
@@ -103,8 +107,14 @@ module _ (g : Geometry) (meaning : Meaning) (victim spare : ℕ) (start now : St
 
   -- ---- the seal is charged
 
-  module _ (new : DieState) (only : OnlyPage (spare * g.pages) now.die new)
-      (here : page_of new (spare * g.pages) ≡ charge (page_of now.die (spare * g.pages)) (seal_cell_of now.die.shape.main_bytes)) where
+  module _ {new : DieState} (shaped : IsShaped now.die) {first : ℕ} (is_first : first ≡ spare * g.pages) (only_first : OnlyPage first now.die new)
+      (first_charged : page_of new first ≡ charge (page_of now.die first) (seal_cell_of now.die.shape.main_bytes)) where
+    only : OnlyPage (spare * g.pages) now.die new
+    only = subst (λ (q : ℕ). OnlyPage q now.die new) is_first only_first
+
+    here : page_of new (spare * g.pages) ≡ charge (page_of now.die (spare * g.pages)) (seal_cell_of now.die.shape.main_bytes)
+    here = subst (λ (q : ℕ). page_of new q ≡ charge (page_of now.die q) (seal_cell_of now.die.shape.main_bytes)) is_first first_charged
+
     here_g : page_of new (spare * g.pages) ≡ with_charged (page_of now.die (spare * g.pages)) (seal_cell_of g.main_bytes)
     here_g = here ∙ ap (λ (s : Shape). with_charged (page_of now.die (spare * g.pages)) (seal_cell_of s.main_bytes)) shape_now
 
@@ -161,8 +171,7 @@ module _ (g : Geometry) (meaning : Meaning) (victim spare : ℕ) (start now : St
         back (inl sound) = inl sound
         back (inr stayed) = inr (omega (arith, stayed, kept.change_faults))
 
-    -- The collection ends well.
-    pub collected : 0 < live_at start.book victim → (table : List (Option Entry)) (after : BookValue) → NamesMoves (spare * g.pages) moves (length r.records) now.table table
+    collected : 0 < live_at start.book victim → (table : List (Option Entry)) (after : BookValue) → NamesMoves (spare * g.pages) moves (length r.records) now.table table
         → after ≡ settled now.book victim spare (length r.records) → IsValid after → Passed 1 0 now.die new → Collected g meaning.decoding victim spare start (store new table after now.seq)
     collected some table after names is valid passed =
         let settles : Settles g meaning.decoding victim spare start now new.cells r.records moves table = record {
@@ -192,6 +201,19 @@ module _ (g : Geometry) (meaning : Meaning) (victim spare : ℕ) (start now : St
               (passed_trans r.passed passed));
         }
 
+    -- The collection ends well.
+    pub collected_so : 0 < live_at start.book victim → copies ≤ length moves → {pages : ℕ} → pages ≡ g.pages → {table : List (Option Entry)} {after : BookValue}
+        → NamesMoves (spare * pages) (take copies moves) (length (take copies moves)) now.table table → after ≡ settled now.book victim spare (length (take copies moves)) → IsValid after
+        → Passed 1 0 now.die new → Collected g meaning.decoding victim spare start (store new table after now.seq)
+    collected_so some within same {table} {after} names is valid passed =
+        let long : length (take copies moves) ≡ copies = length-take-le copies moves within in
+        collected some table after
+        (names_whole (spare * g.pages) moves (length r.records) now.table table
+        (subst (λ (k : ℕ). NamesMoves (spare * g.pages) (take k moves) k now.table table) r.copied
+        (subst (λ (k : ℕ). NamesMoves (spare * g.pages) (take copies moves) k now.table table) long
+        (subst (λ (k : ℕ). NamesMoves (spare * k) (take copies moves) (length (take copies moves)) now.table table) same names))))
+        (is ∙ ap (settled now.book victim spare) (long ∙ r.copied)) valid passed
+
     -- The seal's call failed, and charged it.
     pub seal_failed_charged : ChangeFailed 1 0 now.die new → CollectChangeFailed g meaning.decoding victim spare start (store new now.table now.book now.seq)
     seal_failed_charged failed = record {
@@ -208,14 +230,20 @@ module _ (g : Geometry) (meaning : Meaning) (victim spare : ℕ) (start now : St
 
   -- ---- the seal is not charged
 
-  module _ (new : DieState) (shaped_new : IsShaped new) (only : OnlyPage (spare * g.pages) now.die new) (here : page_of new (spare * g.pages) ≡ page_of now.die (spare * g.pages))
-      (kept : Kept now.die new) where
+  module _ {new : DieState} (shaped : IsShaped now.die) (shaped_new : IsShaped new) {first : ℕ} (is_first : first ≡ spare * g.pages) (only_first : OnlyPage first now.die new)
+      (first_same : page_of new first ≡ page_of now.die first) (kept : Kept now.die new) where
+    only_there : OnlyPage (spare * g.pages) now.die new
+    only_there = subst (λ (q : ℕ). OnlyPage q now.die new) is_first only_first
+
+    same_there : page_of new (spare * g.pages) ≡ page_of now.die (spare * g.pages)
+    same_there = subst (λ (q : ℕ). page_of new q ≡ page_of now.die q) is_first first_same
+
     same_cells : new.cells ≡ now.die.cells
     same_cells = ext_get_or [] new.cells now.die.cells
         ((has_shape g new (kept.shape ∙ shape_now) shaped_new).pages ∙ sym (has_shape g now.die shape_now shaped).pages)
         (λ page _. elim (cases_eq page (spare * g.pages)) [
-          | inr apart ↦ only.others page apart
-          | inl at ↦ subst (λ (q : ℕ). page_of new q ≡ page_of now.die q) (sym at) here
+          | inr apart ↦ only_there.others page apart
+          | inl at ↦ subst (λ (q : ℕ). page_of new q ≡ page_of now.die q) (sym at) same_there
         ])
 
     pub holds_unsealed : Holds g start (store new now.table now.book now.seq)

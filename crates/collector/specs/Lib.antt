@@ -7,5 +7,7 @@ pub mod Says
 pub mod Again
 pub mod Collections
 pub mod Steps
+pub mod Desk
 pub mod Settles
 pub mod Inside
+pub mod Turns

@@ -5,14 +5,15 @@ ghost use Rattle.block_state.specs.Book.{live_at, state_at};
 ghost use Rattle.page_alloc.specs.CleanPage.{IsCollectBranch};
 ghost use Rattle.page_codec.specs.Sizes.{Serves, ServesScheme};
 ghost use Rattle.page_codec.specs.TrueBook.{IsTrue};
+ghost use Rattle.collector.specs.Desk.{SameDesk, Fits, Stays, DeskTrue, DeskHolds};
 ghost use Rattle.collector.specs.Store.{geometry_of, store, Holds};
 ghost use Rattle.collector.specs.Collections.{Collected, CollectReadFailed, CollectChangeFailed};
 ghost use Rattle.collector.specs.Erases.{erased_in, EraseEnds};
-ghost use Rattle.collector.specs.Inside.{Begun, CollectEnds};
+ghost use Rattle.collector.specs.Turns.{DeskBegins, DeskCollects};
 
 use crate::blank::blank_spare;
+use crate::desk::Desk;
 use crate::moves::{Move, Moves};
-use crate::scan::copy_block;
 use crate::seal::charge_seal;
 use crate::settle::settle;
 use block_state::Book;
@@ -21,79 +22,65 @@ use page_codec::{PutFault, Work};
 use sector_map::SectorMap;
 use striped::Scheme;
 
-/// Copies the live records of the victim into the Spare, which is blank, and charges its seal.
-fn copy_sealed<D: Die, C: Scheme>(
-    die: &mut D,
-    scheme: &mut C,
-    work: &mut Work,
-    map: &mut SectorMap,
-    book: &mut Book,
-    moves: &mut [Move],
-    seq: &mut u64,
-    victim: u32,
-    spare: u32,
-) -> Result<u32, PutFault>
-    requires die { Serves work.old (D.state die.old).shape }
-    requires scheme { ServesScheme work.old (C.meaning scheme.old) }
-    requires small_sector { (C.meaning scheme.old).sector_bytes ≤ 512 }
-    requires small_page { (C.meaning scheme.old).page_bytes ≤ 1200 }
-    requires begun { Begun (geometry_of (D.state die.old).shape (C.meaning scheme.old) (length map.old)) victim spare (store (D.state die.old) map.old book.old seq.old) }
-    requires some_live { 0 < live_at book.old victim }
-    requires room { (D.state die.old).shape.pages ≤ length moves.old }
-    ensures holds { Holds (geometry_of (D.state die.old).shape (C.meaning scheme.old) (length map.old))
-        (store (D.state die.old) map.old book.old seq.old) (store (D.state die.new) map.new book.new seq.new) }
-    ensures ends { CollectEnds (geometry_of (D.state die.old).shape (C.meaning scheme.old) (length map.old)) (C.meaning scheme.old).decoding victim spare
-        (store (D.state die.old) map.old book.old seq.old) (store (D.state die.new) map.new book.new seq.new) result }
-    ensures same_erases { (D.state die.new).erases ≡ (D.state die.old).erases }
-    ensures same_scheme { C.meaning scheme.new ≡ C.meaning scheme.old }
-    ensures same_work { work.new ≡ work.old }
-{
-    let copies = match copy_block(die, scheme, work, map, book, moves, seq, victim, spare) {
-        Ok(copies) => copies,
-        Err(fault) => return Err(fault),
-    };
-    let first = spare * book.pages();
-    match charge_seal(die, first) {
-        Ok(()) => {
-            settle(map, book, &moves[..copies as usize], victim, spare);
-            Ok(copies)
+impl<D: Die, C: Scheme> Desk<'_, D, C> {
+    /// Copies the live records of the victim into the Spare, which is blank, and charges its seal.
+    fn copy_sealed(
+        &mut self,
+        map: &mut SectorMap,
+        moves: &mut [Move],
+        victim: u32,
+        spare: u32,
+    ) -> Result<u32, PutFault>
+        requires fits { Fits D.state C.meaning self.old }
+        requires small_page { (C.meaning self.old.scheme.now).page_bytes ≤ 1200 }
+        requires begun { DeskBegins D.state C.meaning victim spare self.old map.old }
+        requires some_live { 0 < live_at self.old.book.now victim }
+        requires room { (D.state self.old.die.now).shape.pages ≤ length moves.old }
+        ensures holds { DeskHolds D.state C.meaning self.old map.old self.new map.new }
+        ensures ends { DeskCollects D.state C.meaning victim spare result self.old map.old self.new map.new }
+        ensures stays { Stays D.state C.meaning self.old self.new }
+        ensures same_desk { SameDesk self.old self.new }
+    {
+        let copies = match self.copy_block(map, moves, victim, spare) {
+            Ok(copies) => copies,
+            Err(fault) => return Err(fault),
+        };
+        let first = spare * self.book.pages();
+        match charge_seal(self.die, first) {
+            Ok(()) => {
+                settle(map, self.book, &moves[..copies as usize], victim, spare);
+                Ok(copies)
+            }
+            Err(DieFault) => Err(PutFault::Change),
         }
-        Err(DieFault) => Err(PutFault::Change),
     }
-}
 
-/// Collects the victim into the Spare.
-fn collect_into<D: Die, C: Scheme>(
-    die: &mut D,
-    scheme: &mut C,
-    work: &mut Work,
-    map: &mut SectorMap,
-    book: &mut Book,
-    moves: &mut [Move],
-    seq: &mut u64,
-    victim: u32,
-    spare: u32,
-) -> Result<u32, PutFault>
-    requires die { Serves work.old (D.state die.old).shape }
-    requires scheme { ServesScheme work.old (C.meaning scheme.old) }
-    requires small_sector { (C.meaning scheme.old).sector_bytes ≤ 512 }
-    requires small_page { (C.meaning scheme.old).page_bytes ≤ 1200 }
-    requires tables { IsTrue (geometry_of (D.state die.old).shape (C.meaning scheme.old) (length map.old)) (D.state die.old).cells book.old map.old seq.old }
-    requires fresh { seq.old < 2 ^ 62 }
-    requires branch { IsCollectBranch book.old victim spare }
-    requires few { live_at book.old victim < book.old.pages }
-    requires room { book.old.pages ≤ length moves.old }
-    ensures holds { Holds (geometry_of (D.state die.old).shape (C.meaning scheme.old) (length map.old))
-        (store (D.state die.old) map.old book.old seq.old) (store (D.state die.new) map.new book.new seq.new) }
-    ensures ends { CollectEnds (geometry_of (D.state die.old).shape (C.meaning scheme.old) (length map.old)) (C.meaning scheme.old).decoding victim spare
-        (store (D.state die.old) map.old book.old seq.old) (store (D.state die.new) map.new book.new seq.new) result }
-    ensures erased { EraseEnds (erased_in (state_at book.old spare) spare) result (D.state die.old) (D.state die.new) }
-    ensures same_scheme { C.meaning scheme.new ≡ C.meaning scheme.old }
-    ensures same_work { work.new ≡ work.old }
-{
-    match blank_spare(die, book, spare) {
-        Ok(()) => copy_sealed(die, scheme, work, map, book, moves, seq, victim, spare),
-        Err(DieFault) => Err(PutFault::Change),
+    /// Collects the victim into the Spare.
+    fn collect_into(
+        &mut self,
+        map: &mut SectorMap,
+        moves: &mut [Move],
+        victim: u32,
+        spare: u32,
+    ) -> Result<u32, PutFault>
+        requires fits { Fits D.state C.meaning self.old }
+        requires small_page { (C.meaning self.old.scheme.now).page_bytes ≤ 1200 }
+        requires tables { DeskTrue D.state C.meaning self.old map.old }
+        requires fresh { self.old.seq.now < 2 ^ 62 }
+        requires branch { IsCollectBranch self.old.book.now victim spare }
+        requires few { live_at self.old.book.now victim < self.old.book.now.pages }
+        requires room { self.old.book.now.pages ≤ length moves.old }
+        ensures holds { DeskHolds D.state C.meaning self.old map.old self.new map.new }
+        ensures ends { DeskCollects D.state C.meaning victim spare result self.old map.old self.new map.new }
+        ensures erased { EraseEnds (erased_in (state_at self.old.book.now spare) spare) result (D.state self.old.die.now) (D.state self.new.die.now) }
+        ensures same_scheme { C.meaning self.new.scheme.now ≡ C.meaning self.old.scheme.now }
+        ensures same_work { self.new.work.now ≡ self.old.work.now }
+        ensures same_desk { SameDesk self.old self.new }
+    {
+        match blank_spare(self.die, self.book, spare) {
+            Ok(()) => self.copy_sealed(map, moves, victim, spare),
+            Err(DieFault) => Err(PutFault::Change),
+        }
     }
 }
 
@@ -140,5 +127,12 @@ pub fn collect<D: Die, C: Scheme>(
     };
     let spare = book.spare();
     let room = &mut moves.moves;
-    collect_into(die, scheme, work, map, book, room, seq, victim, spare)
+    let mut desk = Desk {
+        die,
+        scheme,
+        work,
+        book,
+        seq,
+    };
+    desk.collect_into(map, room, victim, spare)
 }

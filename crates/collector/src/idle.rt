@@ -7,10 +7,12 @@ ghost use Rattle.page_codec.specs.Puts.{first_slot};
 ghost use Rattle.page_codec.specs.Sizes.{Serves, ServesScheme};
 ghost use Rattle.page_codec.specs.TrueBook.{IsTrue, entry_of};
 ghost use Rattle.collector.specs.Store.{geometry_of, store, Holds};
-ghost use Rattle.collector.specs.Again.{IsNextPage, IsLive, MoveEnds};
+ghost use Rattle.collector.specs.Desk.{SameDesk, Fits, Stays, geometry_on, DeskTrue, DeskHolds, DeskMoves};
+ghost use Rattle.collector.specs.Again.{IsNextPage, IsLive};
 ghost use Rattle.collector.specs.Moves.{Moved, MoveReadFailed, MoveChangeFailed, NoMoveLeft};
 
-use crate::again::{put_again, says_zeros};
+use crate::again::says_zeros;
+use crate::desk::Desk;
 use crate::effect::record_effect;
 use crate::live::{LiveRecord, find_first};
 use block_state::{Book, State};
@@ -58,42 +60,33 @@ fn first_entry(page: u32, header: &Header) -> Entry
     }
 }
 
-/// Moves a live record to the Active block's next page.
-fn move_record<D: Die, C: Scheme>(
-    die: &mut D,
-    scheme: &mut C,
-    work: &mut Work,
-    map: &mut SectorMap,
-    book: &mut Book,
-    live: &LiveRecord,
-    page: u32,
-    seq: &mut u64,
-) -> Result<(), PutFault>
-    requires die { Serves work.old (D.state die.old).shape }
-    requires scheme { ServesScheme work.old (C.meaning scheme.old) }
-    requires small_sector { (C.meaning scheme.old).sector_bytes ≤ 512 }
-    requires tables { IsTrue (geometry_of (D.state die.old).shape (C.meaning scheme.old) (length map.old)) (D.state die.old).cells book.old map.old seq.old }
-    requires fresh { seq.old < 2 ^ 62 }
-    requires live { IsLive (geometry_of (D.state die.old).shape (C.meaning scheme.old) (length map.old)) (D.state die.old).cells live.now }
-    requires next { (room : ℕ) × IsNextPage book.old page room }
-    ensures holds { Holds (geometry_of (D.state die.old).shape (C.meaning scheme.old) (length map.old))
-        (store (D.state die.old) map.old book.old seq.old)
-        (store (D.state die.new) map.new book.new seq.new) }
-    ensures ends { MoveEnds (geometry_of (D.state die.old).shape (C.meaning scheme.old) (length map.old)) (C.meaning scheme.old) live.now page result
-        (store (D.state die.old) map.old book.old seq.old)
-        (store (D.state die.new) map.new book.new seq.new) }
-    ensures same_erases { (D.state die.new).erases ≡ (D.state die.old).erases }
-    ensures same_scheme { C.meaning scheme.new ≡ C.meaning scheme.old }
-    ensures same_work { work.new ≡ work.old }
-{
-    put_again(die, scheme, work, live, page, seq)?;
-    record_effect(
-        map,
-        book,
-        live.header.sector,
-        first_entry(page, &live.header),
-    );
-    Ok(())
+impl<D: Die, C: Scheme> Desk<'_, D, C> {
+    /// Moves a live record to the Active block's next page.
+    fn move_record(
+        &mut self,
+        map: &mut SectorMap,
+        live: &LiveRecord,
+        page: u32,
+    ) -> Result<(), PutFault>
+        requires fits { Fits D.state C.meaning self.old }
+        requires tables { DeskTrue D.state C.meaning self.old map.old }
+        requires fresh { self.old.seq.now < 2 ^ 62 }
+        requires live { IsLive (geometry_on D.state C.meaning self.old map.old) (D.state self.old.die.now).cells live.now }
+        requires next { (room : ℕ) × IsNextPage self.old.book.now page room }
+        ensures holds { DeskHolds D.state C.meaning self.old map.old self.new map.new }
+        ensures ends { DeskMoves D.state C.meaning live.now page result self.old map.old self.new map.new }
+        ensures stays { Stays D.state C.meaning self.old self.new }
+        ensures same_desk { SameDesk self.old self.new }
+    {
+        self.put_again(live, page)?;
+        record_effect(
+            map,
+            self.book,
+            live.header.sector,
+            first_entry(page, &live.header),
+        );
+        Ok(())
+    }
 }
 
 /// Moves the first live record of the idle victim to slot 0 of the Active block's next page. It answers whether there was one to
@@ -142,6 +135,13 @@ pub fn move_one<D: Die, C: Scheme>(
     let Ok(live) = find_first(die, work, map, victim * pages, pages) else {
         return Err(PutFault::Read);
     };
-    move_record(die, scheme, work, map, book, &live, next.page, seq)?;
+    let mut desk = Desk {
+        die,
+        scheme,
+        work,
+        book,
+        seq,
+    };
+    desk.move_record(map, &live, next.page)?;
     Ok(true)
 }

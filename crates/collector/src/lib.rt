@@ -7,6 +7,7 @@ mod again;
 mod blank;
 mod collection;
 mod copy;
+mod desk;
 mod effect;
 mod idle;
 mod live;
