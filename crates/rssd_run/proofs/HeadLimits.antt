@@ -1,5 +1,5 @@
 -- The limits of a head, for each scheme of the table, as those of its die and of its device.
-use Rattle.std.proofs.Common.{◌≡◌, ◌⊎◌, inl, inr, ℕ, ◌+◌, ◌-◌, ◌*◌, ◌≤◌, true, refl, sym, ap, arith, lit≤, Bool}
+use Rattle.std.proofs.Common.{◌≡◌, ◌⊎◌, inl, inr, ℕ, ◌+◌, ◌-◌, ◌*◌, ◌≤◌, true, refl, sym, ap, arith, Bool}
 use Rattle.std.specs.Prelude.{nat_le, ◌&&◌}
 use Rattle.std.proofs.lemmas.Bool.{leb-true, and_parts}
 use Rattle.mem_die.specs.Limits.{IsWithinLimits as FitsDie}
@@ -38,105 +38,7 @@ record RowSizes (name : SchemeName) : Type 0 where
 
 row_sizes : (name : SchemeName) → RowSizes name
 unfolding row_of
-row_sizes Plain16 =
-    record {
-      some_sector_bytes = lit≤ tt;
-      few_sector_bytes = lit≤ tt;
-      some_page_bytes = lit≤ tt;
-      few_page_bytes = lit≤ tt;
-      some_span = lit≤ tt;
-      small_span = lit≤ tt;
-      two_generations = lit≤ tt;
-      three_generations = lit≤ tt;
-    }
-row_sizes Rs16 =
-    record {
-      some_sector_bytes = lit≤ tt;
-      few_sector_bytes = lit≤ tt;
-      some_page_bytes = lit≤ tt;
-      few_page_bytes = lit≤ tt;
-      some_span = lit≤ tt;
-      small_span = lit≤ tt;
-      two_generations = lit≤ tt;
-      three_generations = lit≤ tt;
-    }
-row_sizes Rs512 =
-    record {
-      some_sector_bytes = lit≤ tt;
-      few_sector_bytes = lit≤ tt;
-      some_page_bytes = lit≤ tt;
-      few_page_bytes = lit≤ tt;
-      some_span = lit≤ tt;
-      small_span = lit≤ tt;
-      two_generations = lit≤ tt;
-      three_generations = lit≤ tt;
-    }
-row_sizes Coset16 =
-    record {
-      some_sector_bytes = lit≤ tt;
-      few_sector_bytes = lit≤ tt;
-      some_page_bytes = lit≤ tt;
-      few_page_bytes = lit≤ tt;
-      some_span = lit≤ tt;
-      small_span = lit≤ tt;
-      two_generations = lit≤ tt;
-      three_generations = lit≤ tt;
-    }
-row_sizes Coset512 =
-    record {
-      some_sector_bytes = lit≤ tt;
-      few_sector_bytes = lit≤ tt;
-      some_page_bytes = lit≤ tt;
-      few_page_bytes = lit≤ tt;
-      some_span = lit≤ tt;
-      small_span = lit≤ tt;
-      two_generations = lit≤ tt;
-      three_generations = lit≤ tt;
-    }
-row_sizes Flip16 =
-    record {
-      some_sector_bytes = lit≤ tt;
-      few_sector_bytes = lit≤ tt;
-      some_page_bytes = lit≤ tt;
-      few_page_bytes = lit≤ tt;
-      some_span = lit≤ tt;
-      small_span = lit≤ tt;
-      two_generations = lit≤ tt;
-      three_generations = lit≤ tt;
-    }
-row_sizes Flip512 =
-    record {
-      some_sector_bytes = lit≤ tt;
-      few_sector_bytes = lit≤ tt;
-      some_page_bytes = lit≤ tt;
-      few_page_bytes = lit≤ tt;
-      some_span = lit≤ tt;
-      small_span = lit≤ tt;
-      two_generations = lit≤ tt;
-      three_generations = lit≤ tt;
-    }
-row_sizes Ham16 =
-    record {
-      some_sector_bytes = lit≤ tt;
-      few_sector_bytes = lit≤ tt;
-      some_page_bytes = lit≤ tt;
-      few_page_bytes = lit≤ tt;
-      some_span = lit≤ tt;
-      small_span = lit≤ tt;
-      two_generations = lit≤ tt;
-      three_generations = lit≤ tt;
-    }
-row_sizes Ham512 =
-    record {
-      some_sector_bytes = lit≤ tt;
-      few_sector_bytes = lit≤ tt;
-      some_page_bytes = lit≤ tt;
-      few_page_bytes = lit≤ tt;
-      some_span = lit≤ tt;
-      small_span = lit≤ tt;
-      two_generations = lit≤ tt;
-      three_generations = lit≤ tt;
-    }
+row_sizes name = grind arith
 
 named_served : (name : SchemeName) → IsServed (meaning_named name)
 named_served name =

@@ -24,7 +24,7 @@ use Rattle.rssd_run.specs.Step.{IsStep, RefusedExactly, OutOfRange, TooLong, Num
 use Rattle.rssd_run.proofs.Came.{power_tells, went_power, went_lowers, none_came, AReadCame, read_came, read_rose, passed_went}
 use Rattle.rssd_run.proofs.Parts.{no_fault}
 use Rattle.rssd_run.proofs.Still.{keeps_cells, keeps_die, same_book, same_seq, lowers_none, lowers_powered, power_given, cut_powered, form_powered, read_powered}
-use Rattle.rssd_run.proofs.WriteSteps.{event_of}
+use Rattle.rssd_run.proofs.Parts.{event_of}
 
 pub mount_row : (size : ℕ) (array : ArrayState) (rows : List (List ℕ)) → IsArrayOf rows array → Row size array Mount Done (On rows)
 mount_row size (On held) rows same = ap On same

@@ -21,7 +21,7 @@ use Rattle.rssd_run.proofs.Came.{none_came}
 use Rattle.rssd_run.proofs.Parts.{no_fault, keeps_same, keeps_none, not_both}
 use Rattle.rssd_run.proofs.Still.{same_book, same_seq, lowers_none}
 use Rattle.rssd_run.proofs.MountSteps.{never_refused}
-use Rattle.rssd_run.proofs.WriteSteps.{event_of, sector_in, bytes_in}
+use Rattle.rssd_run.proofs.Parts.{event_of, sector_in, bytes_in}
 use Rattle.rssd_run.proofs.Stepped.{runs_on}
 
 -- what must hold of a line and a reply that leave a view as it is
