@@ -40,7 +40,7 @@ module _ (head : ImageHead) (die : DieState) (given : IsGivenBlank head die) whe
   some_blocks : 0 < head.blocks
   some_blocks = omega (arith, (head_limits head given.within).some_blocks)
 
-  blank : IsBlank (numbers_named head).geometry die.cells
+  pub blank : IsBlank (numbers_named head).geometry die.cells
   blank =
       let row : HasRow head.scheme (meaning_named head.scheme) = named_row head.scheme in
       record {
@@ -48,11 +48,11 @@ module _ (head : ImageHead) (die : DieState) (given : IsGivenBlank head die) whe
         blank = λ page within. given.blank.blank page within ∙ ap (λ (n : ℕ). replicate ((shape_of head).main_bytes + 16 * n) 0) (sym row.generations);
       }
 
-  sound : IsSound (numbers_named head).geometry die.cells
+  pub sound : IsSound (numbers_named head).geometry die.cells
   sound = blank_sound (numbers_named head).geometry die.cells some_blocks blank
 
-  never_full : EveryBlockLive (numbers_named head).geometry die → ⊥
-  never_full full =
+  pub no_block_live : EveryBlockLive (numbers_named head).geometry die → ⊥
+  no_block_live full =
       let live = full 0 some_blocks in
       let none = blank_counts (numbers_named head).geometry die.cells blank 0 in
       omega (arith, live, none)
@@ -73,7 +73,7 @@ module _ (head : ImageHead) (die : DieState) (given : IsGivenBlank head die) whe
     refused_so new OutOfMemory never shape refuses = refl
     refused_so new BadShape never shape refuses = absurd (shape refl given_fits)
     refused_so new DieFault never shape refuses = absurd (never refuses)
-    refused_so new NoSpare never shape refuses = absurd (never_full refuses.full)
+    refused_so new NoSpare never shape refuses = absurd (no_block_live refuses.full)
 
     pub never_refused : (new : DieState) (why : MountError) → (MountFails (numbers_named head) die new → ⊥) → (why ≡ BadShape → ¬ Fits die.shape meaning (plan_of head))
         → Refuses (numbers_of die.shape meaning (plan_of head)) die new why → why ≡ OutOfMemory

@@ -29,7 +29,8 @@ use Rattle.rssd_run.specs.Leaves.{Leaves}
 use Rattle.rssd_run.specs.Held.{reply_of}
 use Rattle.rssd_run.specs.ArrayWithCuts.{ArrayState, Row}
 use Rattle.rssd_core.specs.declared.device.Placed.{Placed}
-use Rattle.rssd_core.specs.Outcomes.{firsts as put_firsts, seconds as put_seconds, declines as put_declines, SameCounts, Trimmed, TrimFault, WriteFault, OnlyDie, RisesSealed, WriteFaultMay, TrimFaultMay}
+use Rattle.rssd_core.specs.Outcomes.{firsts as put_firsts, seconds as put_seconds, declines as put_declines, SameCounts, Trimmed}
+use Rattle.rssd_core.specs.Outcomes.{TrimFault, WriteFault, OnlyDie, RisesSealed, WriteFaultMay, TrimFaultMay}
 use Rattle.rssd_core.specs.Writes.{WentTo}
 use Rattle.rssd_core.specs.Within.{Went}
 use Rattle.rssd_core.specs.Failures.{Tells, TellsPower, Lowers}
@@ -46,7 +47,7 @@ use Rattle.rssd_run.proofs.Parts.{event_of, sector_in, bytes_in, offered_both, o
 
 -- ---- a step whose die tells its power is a played step too
 
-book_at_cut : {d : Numbers} {old new : DeviceView} {May : List Change → Type 0} {Rises : List Change → ℕ → Type 0} {AtCut Then : ℕ → Type 0} (book : MovesBook d May Rises AtCut old new)
+pub book_at_cut : {d : Numbers} {old new : DeviceView} {May : List Change → Type 0} {Rises : List Change → ℕ → Type 0} {AtCut Then : ℕ → Type 0} (book : MovesBook d May Rises AtCut old new)
     → Then book.rise → MovesBook d May Rises Then old new
 book_at_cut book at = record { changes = book.changes; leads = book.leads; may = book.may; rise = book.rise; rises = book.rises; tally = book.tally; at_cut = at }
 
@@ -414,7 +415,7 @@ is_plain d e line is = absurd is
 
 module _ (d : Numbers) (line : Line) (reply : Reply) (before after : View) (is : IsPlayed line) (p : IsPlayedStep d (event_of line reply before after)) where
   -- where the armed failures moved as they must
-  exact_step : StatAnswer (event_of line reply before after) reply → reply ≢ NoSpare → FaultExactly (event_of line reply before after)
+  pub exact_step : StatAnswer (event_of line reply before after) reply → reply ≢ NoSpare → FaultExactly (event_of line reply before after)
       → ByRules d (event_of line reply before after)
       → ((reply ≡ Fault → ⊥)
       → Lowers (change_calls d before.device line reply) (read_calls d before.device line reply) (BoundOnly before.device line reply) before.device.die after.device.die)
