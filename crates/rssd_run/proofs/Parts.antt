@@ -120,10 +120,6 @@ abbrev pub bytes_in : Line → List ℕ
 bytes_in (Write sector bytes) = bytes
 bytes_in line = []
 
-pub must_not : {A : Type 0} → ⊥ ⊎ (Unit {0} → ⊥) → A
-must_not (inl never) = absurd never
-must_not (inr never) = absurd (never tt)
-
 abbrev unit_in : ReuseUnit → Option ReuseUnit → ReuseUnit
 unit_in other None = other
 unit_in other (Some unit) = unit
@@ -164,25 +160,8 @@ unfinished_plus d base old new n m = record {
   by_rule = m.by_rule;
   one_more = m.one_more;
   unfinished = elim m.unfinished [
-    | inl unread ↦ inl (record {
-      cells = unread.cells;
-      seq = unread.seq;
-      recycled = unread.recycled;
-      victim = unread.victim;
-      is_victim = unread.is_victim;
-      failed = unread.failed;
-      by_then = unread.by_then;
-    })
-    | inr broken ↦ inr (record {
-      rows = broken.rows;
-      seq = broken.seq;
-      book = broken.book;
-      victim = broken.victim;
-      is_victim = broken.is_victim;
-      first = broken.first;
-      is_first = broken.is_first;
-      failed = broken.failed;
-    })
+    | inl u ↦ inl (record { cells = u.cells; seq = u.seq; recycled = u.recycled; victim = u.victim; is_victim = u.is_victim; failed = u.failed; by_then = u.by_then })
+    | inr b ↦ inr (record { rows = b.rows; seq = b.seq; book = b.book; victim = b.victim; is_victim = b.is_victim; first = b.first; is_first = b.is_first; failed = b.failed })
   ];
 }
 

@@ -112,22 +112,25 @@ module _ (head : ImageHead) (die : DieState) (given : IsGivenBlank head die) whe
       book = mounts.true_book;
     }
 
-    -- the device's lines are a play from its first view
+    -- what its lines are from each view that it stands for they are from its first view
+    from_first : (Play : Numbers → View → View → Type 0)
+        → ((base : Tallies) (before : View) → ShowsHolding device.numbers base (Mounted device) before → IsSound device.numbers.geometry device.view.die.cells → TrueWhileRunning device.numbers device
+        → (after : View) × Play device.numbers before after) → (after : View) × Play (numbers_named head) first_view after
+    from_first Play plays =
+        let stands : Stands (numbers_named head) none device first_view = start_stands in
+        let so = plays none first_view
+        (subst (λ (d : Numbers). ShowsHolding d none (Mounted device) first_view) (sym mounts.numbers) stands.shows)
+        (subst (λ (d : Numbers). IsSound d.geometry device.view.die.cells) (sym mounts.numbers) stands.sound)
+        (subst (λ (d : Numbers). TrueWhileRunning d device) (sym mounts.numbers) stands.book) in
+        (so.0, subst (λ (d : Numbers). Play d first_view so.0) mounts.numbers so.1)
+
     module _ (P : Event → Type 0) (lines : List Line) (log log_after : List Act) where
       pub plays_from : PlaysLines P device lines log log_after → PlaysFrom (IsPlayStart head die) P (numbers_named head) lines log log_after
       plays_from plays =
-          let stands : Stands (numbers_named head) none device first_view = start_stands in
-          let so = plays none first_view
-          (subst (λ (d : Numbers). ShowsHolding d none (Mounted device) first_view) (sym mounts.numbers) stands.shows)
-          (subst (λ (d : Numbers). IsSound d.geometry device.view.die.cells) (sym mounts.numbers) stands.sound)
-          (subst (λ (d : Numbers). TrueWhileRunning d device) (sym mounts.numbers) stands.book) in
-          record { before = first_view; start = play_start; after = so.0; play = subst (λ (d : Numbers). PlayOf P d first_view lines so.0 log log_after) mounts.numbers so.1 }
+          let so = from_first (λ d before after. PlayOf P d before lines after log log_after) plays in
+          record { before = first_view; start = play_start; after = so.0; play = so.1 }
 
       pub plays_front_from : CutsOffPlay P device lines log log_after → PlaysFrontFrom (IsPlayStart head die) P (numbers_named head) lines log log_after
       plays_front_from plays =
-          let stands : Stands (numbers_named head) none device first_view = start_stands in
-          let so = plays none first_view
-          (subst (λ (d : Numbers). ShowsHolding d none (Mounted device) first_view) (sym mounts.numbers) stands.shows)
-          (subst (λ (d : Numbers). IsSound d.geometry device.view.die.cells) (sym mounts.numbers) stands.sound)
-          (subst (λ (d : Numbers). TrueWhileRunning d device) (sym mounts.numbers) stands.book) in
-          record { before = first_view; start = play_start; after = so.0; play = subst (λ (d : Numbers). PlayCutOff P d first_view lines so.0 log log_after) mounts.numbers so.1 }
+          let so = from_first (λ d before after. PlayCutOff P d before lines after log log_after) plays in
+          record { before = first_view; start = play_start; after = so.0; play = so.1 }

@@ -426,9 +426,9 @@ module _ (d : Numbers) (line : Line) (reply : Reply) (before after : View) (is :
         row = p.row;
         stands_before = p.stands_before;
         stands_after = p.stands_after;
+        fault = fault;
         off = p.off;
         keeps = p.keeps;
-        fault = fault;
         placed = λ sector bytes tried.
             let so : PlacedSo d (event_of line reply before after) sector (filled_up d.geometry.sector_bytes bytes) = p.placed sector bytes tried in
             record {
