@@ -8,7 +8,7 @@ use Rattle.rssd_run.specs.View.{View, Event, StandsFor, NoFailure}
 use Rattle.rssd_run.specs.Placing.{PlacedExactly}
 use Rattle.rssd_core.specs.Failures.{Tells}
 use Rattle.rssd_run.proofs.Came.{none_came, went_tells, read_failed_tells, change_failed_tells, passed_went}
-use Rattle.rssd_run.proofs.CommandSteps.{bounded}
+use Rattle.rssd_run.proofs.Parts.{bounded}
 use Rattle.rssd_run.proofs.Parts.{keeps_same, keeps_none}
 use Rattle.rssd_run.proofs.Still.{lowers_none}
 use Rattle.rssd_script.specs.declared.lines.Line.{Line}
@@ -26,11 +26,11 @@ use Rattle.rssd_run.specs.Held.{Tallies, on, off, reply_of}
 use Rattle.rssd_run.specs.Steps.{IsKept, Steps, ArrayIs}
 use Rattle.rssd_run.specs.Shows.{Mounted}
 use Rattle.rssd_run.specs.Played.{IsPlayed, WroteSo, AnsweredWrite, AnsweredRead, AnsweredTrim, AnsweredIdle, Answered, IsPlayedStep, Plays, PlaysQuiet}
-use Rattle.rssd_run.proofs.WriteSteps.{event_of}
+use Rattle.rssd_run.proofs.Parts.{event_of}
 use Rattle.rssd_run.proofs.Stepped.{array_runs, array_stops, wrote_steps, write_fault_steps, trimmed_steps, trim_fault_steps, idled_steps, idle_fault_steps, read_steps, read_fault_steps}
 use Rattle.rssd_run.proofs.Refused.{Stays, still_steps, off_step, write_range, write_long, write_spent, read_range, trim_range, trim_spent}
 use Rattle.rssd_run.proofs.Sessions.{runs_array, stops_array, shows_stands, small_plus}
-use Rattle.rssd_run.proofs.PlayedSteps.{step_played, played_book, played_first, played_second, played_declined, played_write_read_fault, played_write_change_fault, played_trim}
+use Rattle.rssd_run.proofs.PlayedSteps.{step_played, played_book, played_wrote, played_write_read_fault, played_write_change_fault, played_trim}
 use Rattle.rssd_run.proofs.PlayedSteps.{played_trim_read_fault, played_trim_change_fault, played_idle, played_idle_read_fault, played_idle_change_fault, played_read, played_read_fault}
 
 -- a write that was placed
@@ -150,13 +150,13 @@ module _ (d : Numbers) (old new : DeviceValue) (running : old.stopped ≡ false)
       )))
 
   write_plays : (sector : ℕ) (bytes : List ℕ) (reply : Reply) → AnsweredWrite d sector bytes reply old new → Plays d (Write sector bytes) reply old new
-  write_plays sector bytes First a = plays_on d old new running (Write sector bytes) First a.wrote.running (λ base. played_first d base old new sector bytes a)
-  write_plays sector bytes Second a = plays_on d old new running (Write sector bytes) Second a.wrote.running (λ base. played_second d base old new sector bytes a)
-  write_plays sector bytes Declined a = plays_on d old new running (Write sector bytes) Declined a.wrote.running (λ base. played_declined d base old new sector bytes a)
+  write_plays sector bytes First a = plays_on d old new running (Write sector bytes) First a.wrote.running (λ base. played_wrote d base old new sector bytes PutFirst a)
+  write_plays sector bytes Second a = plays_on d old new running (Write sector bytes) Second a.wrote.running (λ base. played_wrote d base old new sector bytes PutSecond a)
+  write_plays sector bytes Declined a = plays_on d old new running (Write sector bytes) Declined a.wrote.running (λ base. played_wrote d base old new sector bytes PutDeclined a)
   write_plays sector bytes Fault a =
       plays_fault d old new running (Write sector bytes) (WithinWrite d old.view (filled_up d.geometry.sector_bytes bytes))
       (written d.geometry.sector_bytes (rows_of d old.view) sector bytes) a.fault.fault
-      (λ f base. played_write_read_fault d base old new sector bytes a f) (λ sound f base. played_write_change_fault d base old new sector bytes a sound f)
+      (λ f base. played_write_read_fault d base old new sector bytes a f) (λ sound f base. played_write_change_fault d base old new sector bytes a f (f.rows sound))
   write_plays sector bytes Range (far, same) = plays_same (Write sector bytes) Range tt same (λ base. write_range d old base sector bytes far)
   write_plays sector bytes Long (near, many, same) = plays_same (Write sector bytes) Long tt same (λ base. write_long d old base sector bytes near many)
   write_plays sector bytes Spent (near, fits, spent, same) = plays_same (Write sector bytes) Spent tt same (λ base. write_spent d old base sector bytes near fits spent)
@@ -176,7 +176,7 @@ module _ (d : Numbers) (old new : DeviceValue) (running : old.stopped ≡ false)
   trim_plays sector Done a = plays_on d old new running (Trim sector) Done a.trimmed.running (λ base. played_trim d base old new sector a)
   trim_plays sector Fault a =
       plays_fault d old new running (Trim sector) (WithinTrim d old.view sector) (trimmed d.geometry.sector_bytes (rows_of d old.view) sector) a.fault.fault
-      (λ f base. played_trim_read_fault d base old new sector a f) (λ sound f base. played_trim_change_fault d base old new sector a sound f)
+      (λ f base. played_trim_read_fault d base old new sector a f) (λ sound f base. played_trim_change_fault d base old new sector a f (f.rows sound))
   trim_plays sector Range (far, same) = plays_same (Trim sector) Range tt same (λ base. trim_range d old base sector far)
   trim_plays sector Spent (near, spent, same) = plays_same (Trim sector) Spent tt same (λ base. trim_spent d old base sector near spent)
   trim_plays sector reply a = absurd a
@@ -185,7 +185,7 @@ module _ (d : Numbers) (old new : DeviceValue) (running : old.stopped ≡ false)
   idle_plays n (Moves k) a = plays_on d old new running (Idle n) (Moves k) a.1.running (λ base. played_idle d base old new n k a.0 a.1)
   idle_plays n Fault a =
       plays_fault d old new running (Idle n) (WithinIdle d n old.view new.view) (rows_of d old.view) a.1.fault
-      (λ f base. played_idle_read_fault d base old new n a.0 a.1 f) (λ sound f base. played_idle_change_fault d base old new n a.0 a.1 sound f)
+      (λ f base. played_idle_read_fault d base old new n a.0 a.1 f) (λ sound f base. played_idle_change_fault d base old new n a.0 a.1 f (f.rows sound))
   idle_plays n reply a = absurd a
 
   pub answered_plays : (line : Line) (reply : Reply) → Answered d line reply old new → Plays d line reply old new

@@ -1,6 +1,6 @@
 -- A run on a blank die is a replay: no block has a live record there, all sectors are zeros, and its cells are sound.
-use Rattle.std.proofs.Common.{◌≡◌, inl, ℕ, ◌+◌, ◌*◌, ◌<◌, true, List, replicate, Some, sym, ap, ◌∙◌, arith, subst}
-use Rattle.cell_die.specs.DieState.{DieState, IsShaped, page_count as die_pages}
+use Rattle.std.proofs.Common.{◌≡◌, inl, ℕ, true, List, Some, sym, ap, ◌∙◌, subst}
+use Rattle.cell_die.specs.DieState.{DieState, IsShaped}
 use Rattle.mem_die.specs.MemState.{IsNew}
 use Rattle.die_image.specs.declared.head.ImageHead.{ImageHead}
 use Rattle.die_image.specs.Image.{is_within_limits, shape_of}
@@ -12,13 +12,11 @@ use Rattle.rssd_io.specs.Event.{Event as Act}
 use Rattle.rssd_script.specs.declared.lines.Line.{Line}
 use Rattle.rssd_run.specs.ArrayWithCuts.{On}
 use Rattle.rssd_run.specs.View.{View}
-use Rattle.schemes.specs.Schemes.{meaning_named, HasRow}
 use Rattle.rssd_run.specs.Heads.{numbers_named}
 use Rattle.rssd_run.specs.DieRuns.{IsReady, IsStart, RunsTo, RunsOn, RunsInPart, RunsFrontOn}
 use Rattle.rssd_run.specs.Replays.{IsBlankStart, Replays, ReplaysFront}
-use Rattle.rssd_run.proofs.BlankCells.{IsBlank, no_header_at, blank_counts, blank_sound, blank_stored}
-use Rattle.rssd_run.proofs.HeadLimits.{head_limits}
-use Rattle.schemes.proofs.Rows.{named_row}
+use Rattle.rssd_run.proofs.BlankCells.{no_header_at, blank_stored}
+use Rattle.rssd_run.proofs.PlayStart.{IsGivenBlank, blank, sound, no_block_live}
 
 -- a new die of a head that is within the limits
 pub record IsFresh (head : ImageHead) (die : DieState) : Type 0 where
@@ -30,25 +28,21 @@ pub fresh_ready : (head : ImageHead) (die : DieState) → IsFresh head die → I
 fresh_ready head die fresh = record { shape = fresh.new.same_shape; quiet = fresh.new.quiet }
 
 module _ (head : ImageHead) (die : DieState) (fresh : IsFresh head die) where
-  some_blocks : 0 < head.blocks
-  some_blocks = omega (arith, (head_limits head fresh.within).some_blocks)
-
-  blank : IsBlank (numbers_named head).geometry die.cells
-  blank =
-      let row : HasRow head.scheme (meaning_named head.scheme) = named_row head.scheme in
-      record {
-        pages = fresh.shaped.pages ∙ ap die_pages fresh.new.same_shape;
-        blank = λ page within. fresh.new.blank page within ∙ ap (λ (n : ℕ). replicate ((shape_of head).main_bytes + 16 * n) 0) (sym row.generations);
-      }
-
-  sound : IsSound (numbers_named head).geometry die.cells
-  sound = blank_sound (numbers_named head).geometry die.cells some_blocks blank
+  given : IsGivenBlank head die
+  given = record {
+    within = fresh.within;
+    shaped = fresh.shaped;
+    blank = record {
+      same_shape = fresh.new.same_shape;
+      blank = fresh.new.blank;
+      erases = fresh.new.erases;
+      read_faults = fresh.new.read_faults;
+      change_faults = fresh.new.change_faults;
+    };
+  }
 
   pub never_full : EveryBlockLive (numbers_named head).geometry die → ⊥
-  never_full full =
-      let live = full 0 some_blocks in
-      let none = blank_counts (numbers_named head).geometry die.cells blank 0 in
-      omega (arith, live, none)
+  never_full = no_block_live head die given
 
   pub blank_start : (view : View) → IsStart head die view → IsBlankStart head view
   blank_start view start =
@@ -60,18 +54,18 @@ module _ (head : ImageHead) (die : DieState) (fresh : IsFresh head die) where
         device = start.device;
         mounts = start.mounts;
         same = start.same;
-        zeros = start.rows ∙ ap On (blank_stored d.geometry d.meaning.decoding die.cells blank);
-        no_header = λ place h at. no_header_at d.geometry die.cells blank place h (subst (λ (cells : List (List ℕ)). header_in d.geometry cells place ≡ Some h) same at);
-        sound = subst (IsSound d.geometry) (sym same) sound;
+        zeros = start.rows ∙ ap On (blank_stored d.geometry d.meaning.decoding die.cells (blank head die given));
+        no_header = λ place h at. no_header_at d.geometry die.cells (blank head die given) place h (subst (λ (cells : List (List ℕ)). header_in d.geometry cells place ≡ Some h) same at);
+        sound = subst (IsSound d.geometry) (sym same) (sound head die given);
       }
 
   module _ (lines : List Line) (log log_after : List Act) where
     pub replays_of : (last : DieState) → RunsOn head die lines log log_after last → Replays head lines log log_after
     replays_of last on_die =
-        let to : RunsTo (numbers_named head) on_die.before lines log log_after last = on_die.run (inl sound) in
+        let to : RunsTo (numbers_named head) on_die.before lines log log_after last = on_die.run (inl (sound head die given)) in
         record { before = on_die.before; start = blank_start on_die.before on_die.start; after = to.after; run = to.run }
 
     pub front_of : RunsFrontOn head die lines log log_after → ReplaysFront head lines log log_after
     front_of on_die =
-        let to : RunsInPart (numbers_named head) on_die.before lines log log_after = on_die.run (inl sound) in
+        let to : RunsInPart (numbers_named head) on_die.before lines log log_after = on_die.run (inl (sound head die given)) in
         record { before = on_die.before; start = blank_start on_die.before on_die.start; after = to.after; run = to.run }

@@ -69,68 +69,51 @@ never_no_image call image no_image =
 
 -- ---- each command
 
+-- where each status but two is ruled out, the call completes
+completes_unless : (Says : Status → Type 0) → (Says BadScript → ⊥) → (Says BadImage → ⊥) → (Says ReadFault → ⊥) → (Says WriteFault → ⊥) → (Says BadWords → ⊥) → (Says Unsound → ⊥)
+    → (status : Status) → Says status → (status ≡ Done) ⊎ (status ≡ OutOfMemory)
+completes_unless Says script image read write words unsound Done says = inl refl
+completes_unless Says script image read write words unsound OutOfMemory says = inr refl
+completes_unless Says script image read write words unsound BadScript says = absurd (script says)
+completes_unless Says script image read write words unsound BadImage says = absurd (image says)
+completes_unless Says script image read write words unsound ReadFault says = absurd (read says)
+completes_unless Says script image read write words unsound WriteFault says = absurd (write says)
+completes_unless Says script image read write words unsound BadWords says = absurd (words says)
+completes_unless Says script image read write words unsound Unsound says = absurd (unsound says)
+
 replay_completes : (head : ImageHead) (call : Call) (status : Status) → SaysReplay head call.script call.out status → HasScript call → NoneFailed call → (status ≡ Done) ⊎ (status ≡ OutOfMemory)
-replay_completes head call Done says script none = inl refl
-replay_completes head call OutOfMemory says script none = inr refl
-replay_completes head call BadScript says script none = absurd (never_refused call script says)
-replay_completes head call ReadFault says script none = absurd (none.no_script_fault says.0)
-replay_completes head call WriteFault says script none = absurd (none.no_out_fault (replay_stopped head call says))
-replay_completes head call BadWords says script none = absurd says
-replay_completes head call BadImage says script none = absurd says
-replay_completes head call Unsound says script none = absurd says
+replay_completes head call status says script none =
+    completes_unless (λ s. SaysReplay head call.script call.out s) (λ s. never_refused call script s) (λ s. s) (λ s. none.no_script_fault s.0)
+    (λ s. none.no_out_fault (replay_stopped head call s)) (λ s. s) (λ s. s) status says
 
 run_completes : (call : Call) (status : Status) → SaysRun call.image call.script call.out call.image_out status → HasScript call → HasImage call → NoneFailed call
     → (status ≡ Done) ⊎ (status ≡ OutOfMemory)
-run_completes call Done says script image none = inl refl
-run_completes call OutOfMemory says script image none = inr refl
-run_completes call BadScript says script image none = absurd (never_refused call script says.0)
-run_completes call BadImage says script image none = absurd (never_bad call image says.0)
-run_completes call ReadFault says script image none = absurd (elim says.0 [ inl failed ↦ none.no_script_fault failed.0 | inr failed ↦ none.no_image_fault failed.0 ])
-run_completes call WriteFault says script image none =
-    absurd (elim says [ inl cut_off ↦ none.no_out_fault (run_stopped call cut_off.0) | inr cut_off ↦ none.no_image_out_fault (stopped _ call.image_out.before call.image_out.after cut_off.written) ])
-run_completes call BadWords says script image none = absurd says
-run_completes call Unsound says script image none = absurd says
+run_completes call status says script image none =
+    completes_unless (λ s. SaysRun call.image call.script call.out call.image_out s) (λ s. never_refused call script s.0) (λ s. never_bad call image s.0)
+    (λ s. elim s.0 [ inl failed ↦ none.no_script_fault failed.0 | inr failed ↦ none.no_image_fault failed.0 ])
+    (λ s. elim s [ inl cut_off ↦ none.no_out_fault (run_stopped call cut_off.0) | inr cut_off ↦ none.no_image_out_fault (stopped _ call.image_out.before call.image_out.after cut_off.written) ])
+    (λ s. s) (λ s. s) status says
 
 format_completes : (head : ImageHead) (call : Call) (status : Status) → SaysFormat head call.image_out status → NoneFailed call → (status ≡ Done) ⊎ (status ≡ OutOfMemory)
-format_completes head call Done says none = inl refl
-format_completes head call OutOfMemory says none = inr refl
-format_completes head call WriteFault says none = absurd (none.no_image_out_fault (stopped _ call.image_out.before call.image_out.after says))
-format_completes head call BadWords says none = absurd says
-format_completes head call BadScript says none = absurd says
-format_completes head call BadImage says none = absurd says
-format_completes head call ReadFault says none = absurd says
-format_completes head call Unsound says none = absurd says
+format_completes head call status says none =
+    completes_unless (λ s. SaysFormat head call.image_out s) (λ s. s) (λ s. s) (λ s. s) (λ s. none.no_image_out_fault (stopped _ call.image_out.before call.image_out.after s))
+    (λ s. s) (λ s. s) status says
 
 upgrade_completes : (call : Call) (status : Status) → SaysUpgrade call.image call.out call.image_out status → HasOldImage call → NoneFailed call → (status ≡ Done) ⊎ (status ≡ OutOfMemory)
-upgrade_completes call Done says image none = inl refl
-upgrade_completes call OutOfMemory says image none = inr refl
-upgrade_completes call BadImage says image none = absurd (never_no_image call image says.0)
-upgrade_completes call ReadFault says image none = absurd (none.no_image_fault says.0)
-upgrade_completes call WriteFault says image none = absurd (none.no_image_out_fault (stopped _ call.image_out.before call.image_out.after says.0.written))
-upgrade_completes call BadWords says image none = absurd says
-upgrade_completes call BadScript says image none = absurd says
-upgrade_completes call Unsound says image none = absurd says
+upgrade_completes call status says image none =
+    completes_unless (λ s. SaysUpgrade call.image call.out call.image_out s) (λ s. s) (λ s. never_no_image call image s.0) (λ s. none.no_image_fault s.0)
+    (λ s. none.no_image_out_fault (stopped _ call.image_out.before call.image_out.after s.0.written)) (λ s. s) (λ s. s) status says
 
 make_completes : (head : ImageHead) (seed count : ℕ) (call : Call) (status : Status) → SaysMake head seed count call.out status → NoneFailed call → (status ≡ Done) ⊎ (status ≡ OutOfMemory)
-make_completes head seed count call Done says none = inl refl
-make_completes head seed count call OutOfMemory says none = inr refl
-make_completes head seed count call WriteFault says none = absurd (none.no_out_fault (stopped _ call.out.before call.out.after says.1))
-make_completes head seed count call BadWords says none = absurd says
-make_completes head seed count call BadScript says none = absurd says
-make_completes head seed count call BadImage says none = absurd says
-make_completes head seed count call ReadFault says none = absurd says
-make_completes head seed count call Unsound says none = absurd says
+make_completes head seed count call status says none =
+    completes_unless (λ s. SaysMake head seed count call.out s) (λ s. s) (λ s. s) (λ s. s) (λ s. none.no_out_fault (stopped _ call.out.before call.out.after s.1)) (λ s. s)
+    (λ s. s) status says
 
 audit_completes : (call : Call) (status : Status) → SaysAudit call.image call.out status → HasSoundImage call → NoneFailed call → (status ≡ Done) ⊎ (status ≡ OutOfMemory)
-audit_completes call Done says image none = inl refl
-audit_completes call OutOfMemory says image none = inr refl
-audit_completes call BadImage says image none = absurd (let is = image.is_image in let not = says.refused.refused in cc)
-audit_completes call ReadFault says image none = absurd (none.no_image_fault says.0)
-audit_completes call WriteFault says image none = absurd (none.no_out_fault (stopped _ call.out.before call.out.after says.lines))
-audit_completes call Unsound says image none =
-    absurd (says.not_sound (found_again call.image says.read image.head image.cells image.is_image image.audit))
-audit_completes call BadWords says image none = absurd says
-audit_completes call BadScript says image none = absurd says
+audit_completes call status says image none =
+    completes_unless (λ s. SaysAudit call.image call.out s) (λ s. s) (λ s. let is = image.is_image in let not = s.refused.refused in cc) (λ s. none.no_image_fault s.0)
+    (λ s. none.no_out_fault (stopped _ call.out.before call.out.after s.lines)) (λ s. s)
+    (λ s. s.not_sound (found_again call.image s.read image.head image.cells image.is_image image.audit)) status says
 
 -- a play of a script each line of which is played
 play_stopped : (S : View → Type 0) (P : Step → Type 0) (d : Numbers) (call : Call) → PlaysScript S P d call.script call.out WriteFault → WriteFailed call.out
@@ -155,17 +138,11 @@ all_played call asked found =
 
 play_completes : (S : View → Type 0) (P : Step → Type 0) (d : Numbers) (call : Call) (status : Status) → SaysPlay S P d call.script call.out status → HasPlayed call → NoneFailed call
     → (status ≡ Done) ⊎ (status ≡ OutOfMemory)
-play_completes S P d call Done says asked none = inl refl
-play_completes S P d call OutOfMemory says asked none = inr refl
-play_completes S P d call BadScript says asked none = elim says [
-  | inl refused ↦ absurd (never_refused call (record { lines = asked.lines; is_script = asked.is_script }) refused)
-  | inr unplayed ↦ absurd (all_played call asked unplayed)
-]
-play_completes S P d call ReadFault says asked none = absurd (none.no_script_fault says.0)
-play_completes S P d call WriteFault says asked none = absurd (none.no_out_fault (play_stopped S P d call says))
-play_completes S P d call BadWords says asked none = absurd says
-play_completes S P d call BadImage says asked none = absurd says
-play_completes S P d call Unsound says asked none = absurd says
+play_completes S P d call status says asked none =
+    completes_unless (λ s. SaysPlay S P d call.script call.out s) (λ s. elim s [
+      | inl refused ↦ never_refused call (record { lines = asked.lines; is_script = asked.is_script }) refused
+      | inr unplayed ↦ all_played call asked unplayed
+    ]) (λ s. s) (λ s. none.no_script_fault s.0) (λ s. none.no_out_fault (play_stopped S P d call s)) (λ s. s) (λ s. s) status says
 
 queue_stopped : (head : ImageHead) (call : Call) → SaysQueue head call.script call.out WriteFault → WriteFailed call.out
 queue_stopped head call says = elim says.stops [
@@ -179,14 +156,9 @@ queue_stopped head call says = elim says.stops [
 ]
 
 queue_completes : (head : ImageHead) (call : Call) (status : Status) → SaysQueue head call.script call.out status → HasScript call → NoneFailed call → (status ≡ Done) ⊎ (status ≡ OutOfMemory)
-queue_completes head call Done says script none = inl refl
-queue_completes head call OutOfMemory says script none = inr refl
-queue_completes head call BadScript says script none = absurd (never_refused call script says)
-queue_completes head call ReadFault says script none = absurd (none.no_script_fault says.0)
-queue_completes head call WriteFault says script none = absurd (none.no_out_fault (queue_stopped head call says))
-queue_completes head call BadWords says script none = absurd says
-queue_completes head call BadImage says script none = absurd says
-queue_completes head call Unsound says script none = absurd says
+queue_completes head call status says script none =
+    completes_unless (λ s. SaysQueue head call.script call.out s) (λ s. never_refused call script s) (λ s. s) (λ s. none.no_script_fault s.0)
+    (λ s. none.no_out_fault (queue_stopped head call s)) (λ s. s) (λ s. s) status says
 
 pub completes : (command : Command) (call : Call) (status : Status) → SaysOf command call status → IsComplete command call status
 completes (Replay head) call status says asked none = replay_completes head call status says.0 asked none

@@ -7,7 +7,6 @@ use Rattle.rssd_io.specs.Pieces.{all_given, Gives, StopsIn}
 use Rattle.rssd_io.proofs.Logs.{given_append}
 use Rattle.cell_die.specs.DieState.{page_bytes}
 use Rattle.die_image.specs.declared.scheme.SchemeName.{SchemeName}
-use Rattle.die_image.specs.declared.scheme.SchemeName.TheVariants.{Plain16, Rs16, Rs512, Coset16, Coset512, Flip16, Flip512, Ham16, Ham512}
 use Rattle.die_image.specs.declared.head.ImageHead.{ImageHead}
 use Rattle.die_image.specs.Schemes.{row_of}
 use Rattle.die_image.specs.Image.{image, first_bytes, word, shape_of}
@@ -137,15 +136,7 @@ cut_bytes zero most bytes some fits = absurd (omega (arith, some))
 
 page_size : (scheme : SchemeName) → 0 < (row_of scheme).page_bytes + 16 * (row_of scheme).generations
 unfolding row_of
-page_size Plain16 = omega arith
-page_size Rs16 = omega arith
-page_size Rs512 = omega arith
-page_size Coset16 = omega arith
-page_size Coset512 = omega arith
-page_size Flip16 = omega arith
-page_size Flip512 = omega arith
-page_size Ham16 = omega arith
-page_size Ham512 = omega arith
+page_size scheme = grind arith
 
 joined : (head : ImageHead) (cells : List ℕ) → image head [] ++ cells ≡ image head cells
 unfolding image

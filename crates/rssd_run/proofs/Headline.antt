@@ -85,22 +85,30 @@ charged_more old mid new first second = record { shape = second.shape ∙ first.
 step_charged : (d : Numbers) (e : Event) → IsStep d e → Charged e.before.device.die e.after.device.die
 step_charged d e step = record { shape = step.keeps.shape; never_falls = step.keeps.never_falls }
 
-charged_from : (d : Numbers) (before : View) (events : List Event) (after : View) → IsRun d before events after → (lines : ℕ) → Charged before.device.die (view_at before events lines).device.die
-unfolding IsRun
-charged_from d before events after run zero = uncharged before.device.die
-charged_from d before [] after run (suc lines) = uncharged before.device.die
-charged_from d before (e ∷ events) after run (suc lines) =
-    subst (λ (view : View). Charged view.device.die (view_at e.after events lines).device.die) run.0
-    (charged_more e.before.device.die e.after.device.die (view_at e.after events lines).device.die (step_charged d e run.1) (charged_from d e.after events after run.2 lines))
+-- each step begins where the one before it ended, and lets no charge fall
+abbrev pub KeepsCharge : View → List Event → Type 0
+KeepsCharge before [] = Unit {0}
+KeepsCharge before (e ∷ events) = (e.before ≡ before) × Charged e.before.device.die e.after.device.die × KeepsCharge e.after events
 
-charged_between : (d : Numbers) (before : View) (events : List Event) (after : View) → IsRun d before events after → (i j : ℕ) → i ≤ j
+charged_from : (before : View) (events : List Event) → KeepsCharge before events → (lines : ℕ) → Charged before.device.die (view_at before events lines).device.die
+charged_from before events keeps zero = uncharged before.device.die
+charged_from before [] keeps (suc lines) = uncharged before.device.die
+charged_from before (e ∷ events) keeps (suc lines) =
+    subst (λ (view : View). Charged view.device.die (view_at e.after events lines).device.die) keeps.0
+    (charged_more e.before.device.die e.after.device.die (view_at e.after events lines).device.die keeps.1 (charged_from e.after events keeps.2 lines))
+
+pub charged_between : (before : View) (events : List Event) → KeepsCharge before events → (i j : ℕ) → i ≤ j
     → Charged (view_at before events i).device.die (view_at before events j).device.die
+charged_between before events keeps zero j later = charged_from before events keeps j
+charged_between before [] keeps (suc i) zero later = absurd (omega (arith, later))
+charged_between before [] keeps (suc i) (suc j) later = uncharged before.device.die
+charged_between before (e ∷ events) keeps (suc i) zero later = absurd (omega (arith, later))
+charged_between before (e ∷ events) keeps (suc i) (suc j) later = charged_between e.after events keeps.2 i j (omega (arith, later))
+
+run_keeps : (d : Numbers) (before : View) (events : List Event) (after : View) → IsRun d before events after → KeepsCharge before events
 unfolding IsRun
-charged_between d before events after run zero j later = charged_from d before events after run j
-charged_between d before [] after run (suc i) zero later = absurd (omega (arith, later))
-charged_between d before [] after run (suc i) (suc j) later = uncharged before.device.die
-charged_between d before (e ∷ events) after run (suc i) zero later = absurd (omega (arith, later))
-charged_between d before (e ∷ events) after run (suc i) (suc j) later = charged_between d e.after events after run.2 i j (omega (arith, later))
+run_keeps d before [] after run = tt
+run_keeps d before (e ∷ events) after run = (run.0, step_charged d e run.1, run_keeps d e.after events after run.2)
 
 pub charge_never_falls : (d : Numbers) (before : View) (events : List Event) (after : View) → IsRun d before events after → ChargeNeverFalls before events
-charge_never_falls d before events after run i j later = (charged_between d before events after run i j later).never_falls
+charge_never_falls d before events after run i j later = (charged_between before events (run_keeps d before events after run) i j later).never_falls

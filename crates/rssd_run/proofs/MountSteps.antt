@@ -1,5 +1,5 @@
 -- Mounts.
-use Rattle.std.proofs.Common.{◌≡◌, ◌≢◌, inl, inr, ℕ, ◌^◌, ◌<◌, List, refl, arith, sym, ap, ◌∙◌}
+use Rattle.std.proofs.Common.{◌≡◌, ◌≢◌, inl, inr, ℕ, ◌^◌, ◌<◌, List, refl, arith, sym, ap, ◌∙◌, subst}
 use Rattle.cell_die.specs.DieState.{DieState}
 use Rattle.cell_die.specs.Changes.{SameCells}
 use Rattle.cell_die.specs.Calls.{Passed, ReadFailed}
@@ -20,11 +20,15 @@ use Rattle.rssd_run.specs.Steps.{MountDone, MountRefused}
 use Rattle.rssd_run.specs.ArrayWithCuts.{ArrayState, On, Off, Row}
 use Rattle.rssd_run.specs.View.{View, Event, NoFailure, StandsFor, IsArrayOf, IsOn}
 use Rattle.rssd_run.specs.Held.{Tallies, plus, on, tallies_of, after_refusal, refused}
+use Rattle.rssd_run.specs.Moves.{ByRules, BookMoves}
+use Rattle.rssd_run.specs.Armed.{ArmedExactly}
+use Rattle.rssd_script.specs.declared.replies.Reply.{Reply}
+use Rattle.rssd_run.specs.Step.{IsRefusal, firsts, seconds, declines, StatAnswer, FaultExactly, NoSpareExactly}
 use Rattle.rssd_run.specs.Step.{IsStep, RefusedExactly, OutOfRange, TooLong, NumbersSpent, AlwaysAnswered}
 use Rattle.rssd_run.proofs.Came.{power_tells, went_power, went_lowers, none_came, AReadCame, read_came, read_rose, passed_went}
 use Rattle.rssd_run.proofs.Parts.{no_fault}
 use Rattle.rssd_run.proofs.Still.{keeps_cells, keeps_die, same_book, same_seq, lowers_none, lowers_powered, power_given, cut_powered, form_powered, read_powered}
-use Rattle.rssd_run.proofs.WriteSteps.{event_of}
+use Rattle.rssd_run.proofs.Parts.{event_of}
 
 pub mount_row : (size : ℕ) (array : ArrayState) (rows : List (List ℕ)) → IsArrayOf rows array → Row size array Mount Done (On rows)
 mount_row size (On held) rows same = ap On same
@@ -115,139 +119,89 @@ read_came_powered {changes} {reads} die new came =
       power = came.power;
     }
 
+-- a mount that is refused leaves the cells as they were, and the array off
+module _ (d : Numbers) (before : View) (die : DieState) (stands : StandsFor d before) (small_first : before.device.first < 2 ^ 64) (small_second : before.device.second < 2 ^ 64)
+    (small_declined : before.device.declined < 2 ^ 64) (small : before.device.moved < 2 ^ 64) (shape : die.shape ≡ before.device.die.shape) (same : SameCells before.device.die die)
+    (tells : Tells before.device.die → Tells die) where
+  refused_step : (reply : Reply) → Row d.geometry.sector_bytes before.array Mount reply (after_refusal before.array) → (IsRefusal reply → ⊥)
+      → (firsts reply ≡ 0) × (seconds reply ≡ 0) × (declines reply ≡ 0) → StatAnswer (event_of Mount reply before (refused before die)) reply
+      → (ByRules d (event_of Mount reply before (refused before die)) → BookMoves d (event_of Mount reply before (refused before die)) Mount reply)
+      → FaultExactly (event_of Mount reply before (refused before die)) → NoSpareExactly d (event_of Mount reply before (refused before die))
+      → ArmedExactly d (event_of Mount reply before (refused before die)) → IsStep d (event_of Mount reply before (refused before die))
+  refused_step reply row done none stat moves fault no_spare armed =
+      let after : View = refused before die in
+      let rows : rows_of d before.device ≡ rows_of d after.device = rw same.cells refl in
+      let still : IsArrayOf (rows_of d after.device) before.array = rw (sym rows) stands in
+      record {
+        row = row;
+        stands_before = stands;
+        stands_after = refused_stands before.array (rows_of d after.device) still;
+        off = λ h c. absurd c;
+        keeps = keeps_cells d before.device after.device shape same tells;
+        placed = λ s b t. absurd (let l = t.write in cc);
+        fault = fault;
+        answers = record {
+          refused = never_refused d (event_of Mount reply before after) tt (λ h. h) (λ h. h) (λ h. h) (λ h. done (subst IsRefusal (sym h) tt)) (λ h. done (subst IsRefusal (sym h) tt))
+              (λ h. done (subst IsRefusal (sym h) tt)) (λ h. done (subst IsRefusal (sym h) tt));
+          idle = tt;
+          no_spare = no_spare;
+          stays = λ h. same;
+          stat = stat;
+          tallies = record { first = omega (arith, none.0, small_first); second = omega (arith, none.1, small_second); declined = omega (arith, none.2, small_declined) };
+        };
+        true_book = λ on. absurd (refused_off before.array on);
+        moves = moves (record { book = same_book d before.device after.device refl refl small (λ c. tt) refl refl; seq = same_seq d before.device after.device refl same.cells });
+        armed = armed;
+        power = λ on. absurd (refused_off before.array on);
+        leaves = same.erases;
+      }
+
 pub mount_fault_step : (d : Numbers) (before : View) (die : DieState) → StandsFor d before → before.device.first < 2 ^ 64 → before.device.second < 2 ^ 64 → before.device.declined < 2 ^ 64
     → before.device.moved < 2 ^ 64
     → Tells before.device.die → ReadFailed 0 (page_count d.geometry) (told with_power before.device.die) die → die.shape ≡ before.device.die.shape → SameCells before.device.die die
     → IsStep d (event_of Mount Fault before (refused before die))
 mount_fault_step d before die stands small_first small_second small_declined small tells failed shape same =
-    let after : View = refused before die in
-    let e : Event = event_of Mount Fault before after in
     let powered : DieState = told with_power before.device.die in
     let came : AReadCame 0 (page_count d.geometry) before.device.die die = read_came_powered before.device.die die (read_came powered die (power_given before.device.die tells) failed) in
-    let rows : rows_of d before.device ≡ rows_of d after.device = rw same.cells refl in
-    let still : IsArrayOf (rows_of d after.device) before.array = rw (sym rows) stands in
-    record {
-      row = fault_row d.geometry.sector_bytes before.array;
-      stands_before = stands;
-      stands_after = refused_stands before.array (rows_of d after.device) still;
-      off = λ h c. absurd c;
-      keeps = keeps_cells d before.device after.device shape same (λ t. power_tells die came.power);
-      placed = λ s b t. absurd (let l = t.write in cc);
-      fault = record {
-        came = (λ h. inr came.came, λ h. refl);
-        one = λ cut read. omega (arith, came.cut.to_come cut.0, cut.1);
-        rose = λ h. read_rose powered die failed;
+    refused_step d before die stands small_first small_second small_declined small shape same (λ t. power_tells die came.power) Fault (fault_row d.geometry.sector_bytes before.array) (λ h. h)
+    (refl, refl, refl) tt (λ m. (m, tt))
+    (record { came = (λ h. inr came.came, λ h. refl); one = λ cut read. omega (arith, came.cut.to_come cut.0, cut.1); rose = λ h. read_rose powered die failed })
+    (record { only = λ h. cc; always = λ line no full. absurd (no (inr came.came)) })
+    (record {
+      arms = tt;
+      lowers = λ a not. absurd (not refl);
+      fault = λ h. record {
+        changes = 0;
+        reads = page_count d.geometry;
+        within = (refl, omega arith);
+        cut_came = λ cut. absurd (omega (arith, came.cut.to_come cut.0, cut.1));
+        read_came = λ read. (came.within, came.cut, came.form);
       };
-      answers = record {
-        refused = never_refused d e tt (λ h. h) (λ h. h) (λ h. h) (λ h. cc) (λ h. cc) (λ h. cc) (λ h. cc);
-        idle = tt;
-        no_spare = record { only = λ h. cc; always = λ line no full. absurd (no (inr came.came)) };
-        stays = λ h. same;
-        stat = tt;
-        tallies = record { first = omega (arith, small_first); second = omega (arith, small_second); declined = omega (arith, small_declined) };
-      };
-      true_book = λ on. absurd (refused_off before.array on);
-      moves = (
-        record {
-          book = same_book d before.device after.device refl refl small (λ c. tt) refl refl;
-          seq = same_seq d before.device after.device refl same.cells;
-        },
-        tt,
-      );
-      armed = record {
-        arms = tt;
-        lowers = λ a not. absurd (not refl);
-        fault = λ h. record {
-          changes = 0;
-          reads = page_count d.geometry;
-          within = (refl, omega arith);
-          cut_came = λ cut. absurd (omega (arith, came.cut.to_come cut.0, cut.1));
-          read_came = λ read. (came.within, came.cut, came.form);
-        };
-      };
-      power = λ on. absurd (refused_off before.array on);
-      leaves = same.erases;
-    }
+    })
 
 pub no_spare_step : (d : Numbers) (before : View) (die : DieState) → StandsFor d before → before.device.first < 2 ^ 64 → before.device.second < 2 ^ 64 → before.device.declined < 2 ^ 64
     → before.device.moved < 2 ^ 64
     → Tells before.device.die → Passed 0 (page_count d.geometry) (told with_power before.device.die) die → die.shape ≡ before.device.die.shape → SameCells before.device.die die
     → EveryBlockLive d.geometry before.device.die → IsStep d (event_of Mount NoSpare before (refused before die))
 no_spare_step d before die stands small_first small_second small_declined small tells passed shape same full =
-    let after : View = refused before die in
-    let e : Event = event_of Mount NoSpare before after in
+    let e : Event = event_of Mount NoSpare before (refused before die) in
     let powered : DieState = told with_power before.device.die in
     let went : Went 0 (page_count d.geometry) ⊥ powered die = passed_went passed in
     let lowers : Lowers 0 (page_count d.geometry) ⊥ before.device.die die = lowers_powered before.device.die die (went_lowers powered die (power_given before.device.die tells) went) in
     let none : NoFailure e = none_came before.device.die die lowers in
-    let rows : rows_of d before.device ≡ rows_of d after.device = rw same.cells refl in
-    let still : IsArrayOf (rows_of d after.device) before.array = rw (sym rows) stands in
-    record {
-      row = spare_row d.geometry.sector_bytes before.array;
-      stands_before = stands;
-      stands_after = refused_stands before.array (rows_of d after.device) still;
-      off = λ h. cc;
-      keeps = keeps_cells d before.device after.device shape same (λ t. power_tells die (went_power powered die (power_given before.device.die tells) went));
-      placed = λ s b t. absurd (let l = t.write in cc);
-      fault = no_fault e (λ h. cc) none;
-      answers = record {
-        refused = never_refused d e tt (λ h. h) (λ h. h) (λ h. h) (λ h. cc) (λ h. cc) (λ h. cc) (λ h. cc);
-        idle = tt;
-        no_spare = record { only = λ h. (refl, none, full); always = λ line no full. inl refl };
-        stays = λ h. same;
-        stat = tt;
-        tallies = record { first = omega (arith, small_first); second = omega (arith, small_second); declined = omega (arith, small_declined) };
-      };
-      true_book = λ on. absurd (refused_off before.array on);
-      moves = (
-        record {
-          book = same_book d before.device after.device refl refl small (λ c. tt) refl refl;
-          seq = same_seq d before.device after.device refl same.cells;
-        },
-        tt,
-      );
-      armed = record { arms = tt; lowers = λ a f. lowers; fault = λ h. cc };
-      power = λ on. absurd (refused_off before.array on);
-      leaves = same.erases;
-    }
+    refused_step d before die stands small_first small_second small_declined small shape same (λ t. power_tells die (went_power powered die (power_given before.device.die tells) went)) NoSpare
+    (spare_row d.geometry.sector_bytes before.array) (λ h. h) (refl, refl, refl) tt (λ m. (m, tt)) (no_fault e (λ h. cc) none)
+    (record { only = λ h. (refl, none, full); always = λ line no full. inl refl }) (record { arms = tt; lowers = λ a f. lowers; fault = λ h. cc })
 
 pub no_memory_step : (d : Numbers) (before : View) → StandsFor d before → before.device.first < 2 ^ 64 → before.device.second < 2 ^ 64 → before.device.declined < 2 ^ 64 → before.device.moved < 2 ^ 64
     → IsStep d (event_of Mount NoMemory before (refused before (told with_power before.device.die)))
 no_memory_step d before stands small_first small_second small_declined small =
     let die : DieState = told with_power before.device.die in
-    let after : View = refused before die in
-    let e : Event = event_of Mount NoMemory before after in
+    let e : Event = event_of Mount NoMemory before (refused before die) in
     let lowers : Lowers 0 0 ⊥ before.device.die die = lowers_powered before.device.die die (lowers_none die) in
-    let none : NoFailure e = none_came before.device.die die lowers in
-    let same : SameCells before.device.die die = record { cells = refl; erases = refl } in
-    record {
-      row = memory_row d.geometry.sector_bytes before.array;
-      stands_before = stands;
-      stands_after = refused_stands before.array (rows_of d after.device) stands;
-      off = λ h. cc;
-      keeps = keeps_cells d before.device after.device refl same (λ t. power_tells die (power_given before.device.die t));
-      placed = λ s b t. absurd (let l = t.write in cc);
-      fault = no_fault e (λ h. cc) none;
-      answers = record {
-        refused = never_refused d e tt (λ h. h) (λ h. h) (λ h. h) (λ h. cc) (λ h. cc) (λ h. cc) (λ h. cc);
-        idle = tt;
-        no_spare = record { only = λ h. cc; always = λ line no full. inr refl };
-        stays = λ h. same;
-        stat = tt;
-        tallies = record { first = omega (arith, small_first); second = omega (arith, small_second); declined = omega (arith, small_declined) };
-      };
-      true_book = λ on. absurd (refused_off before.array on);
-      moves = (
-        record {
-          book = same_book d before.device after.device refl refl small (λ c. tt) refl refl;
-          seq = same_seq d before.device after.device refl refl;
-        },
-        tt,
-      );
-      armed = record { arms = tt; lowers = λ a f. lowers; fault = λ h. cc };
-      power = λ on. absurd (refused_off before.array on);
-      leaves = refl;
-    }
+    refused_step d before die stands small_first small_second small_declined small refl (record { cells = refl; erases = refl }) (λ t. power_tells die (power_given before.device.die t)) NoMemory
+    (memory_row d.geometry.sector_bytes before.array) (λ h. h) (refl, refl, refl) tt (λ m. (m, tt)) (no_fault e (λ h. cc) (none_came before.device.die die lowers))
+    (record { only = λ h. cc; always = λ line no full. inr refl }) (record { arms = tt; lowers = λ a f. lowers; fault = λ h. cc })
 
 pub mounts_done : (d : Numbers) (die : DieState) (new : DeviceValue) → die.shape ≡ shape_of d.geometry → Mounts d (told with_power die) new → Tells die → MountDone d die new
 mounts_done d die new shape m tells =

@@ -10,20 +10,19 @@ use Rattle.rssd_script.specs.declared.lines.Line.{Line}
 use Rattle.rssd_script.specs.declared.lines.Line.TheVariants.{Write, Read, Trim, Idle, Cut, FailRead, Mount, Stat}
 use Rattle.rssd_script.specs.declared.replies.Reply.{Reply}
 use Rattle.rssd_script.specs.declared.replies.Reply.TheVariants.{Stat as Counts, Fault, NoSpare}
-use Rattle.rssd_core.specs.SectorArray.{filled_up}
 use Rattle.rssd_core.specs.DeviceValue.{Numbers, DeviceView}
 use Rattle.rssd_core.specs.Failures.{cut_in, read_in, Lowers}
 use Rattle.rssd_io.specs.Event.{Event as Act}
 use Rattle.rssd_run.specs.ArrayWithCuts.{ArrayState, On, Off, Row}
 use Rattle.rssd_run.specs.View.{View, Event, NoFailure}
-use Rattle.rssd_run.specs.Armed.{Arms}
 use Rattle.rssd_run.specs.Heads.{numbers_named}
-use Rattle.rssd_run.specs.Moves.{BookMoves, ByRules, MovesRecords}
 use Rattle.rssd_run.specs.Step.{IsStep, StatAnswer}
-use Rattle.rssd_run.specs.Played.{IsPlayed, PlacedSo, IsPlayedStep}
+use Rattle.rssd_run.specs.Played.{IsPlayed, IsPlayedStep}
 use Rattle.rssd_run.specs.Run.{IsRun}
 use Rattle.rssd_run.specs.Replays.{IsBlankStart, Replays, ReplaysFront}
 use Rattle.rssd_run.specs.PlayRuns.{IsPlaying, IsPlay, PlaysFrom, PlaysFrontFrom, IsBlankDie, IsPairStart, NeverStops}
+use Rattle.rssd_run.proofs.PlayedSteps.{exact_step, book_at_cut}
+use Rattle.rssd_run.proofs.Parts.{no_fault}
 use Rattle.rssd_run.proofs.PairPlays.{pair_blank, pair_quiet}
 
 -- ---- a line that is played is answered neither with counts nor with `no spare`
@@ -61,26 +60,6 @@ stat_answer : (e : Event) (reply : Reply) → ((first second declined moved eras
 stat_answer e (Counts first second declined moved erases) none = absurd (none first second declined moved erases refl)
 stat_answer e reply none = tt
 
-arms_none : (e : Event) (line : Line) (reply : Reply) → IsPlayed line → Arms e line reply
-arms_none e (Write sector bytes) reply played = tt
-arms_none e (Read sector) reply played = tt
-arms_none e (Trim sector) reply played = tt
-arms_none e (Idle n) reply played = tt
-arms_none e (Cut n torn) reply played = absurd played
-arms_none e (FailRead n) reply played = absurd played
-arms_none e Mount reply played = absurd played
-arms_none e Stat reply played = absurd played
-
-book_of : (d : Numbers) (e : Event) (line : Line) (reply : Reply) → IsPlayed line → ByRules d e → MovesRecords d e line reply → BookMoves d e line reply
-book_of d e (Write sector bytes) reply played rules records = (rules, records)
-book_of d e (Read sector) reply played rules records = (rules, records)
-book_of d e (Trim sector) reply played rules records = (rules, records)
-book_of d e (Idle n) reply played rules records = (rules, records)
-book_of d e (Cut n torn) reply played rules records = absurd played
-book_of d e (FailRead n) reply played rules records = absurd played
-book_of d e Mount reply played rules records = absurd played
-book_of d e Stat reply played rules records = absurd played
-
 -- ---- nothing is armed on a quiet die
 
 abbrev Quiet : Failures → Type 0
@@ -117,63 +96,19 @@ quiet_step : (d : Numbers) (e : Event) → IsPlaying d e → IsQuiet e.before.de
 quiet_step d e playing quiet =
     let s : IsPlayedStep d e = playing.step in
     let after : IsQuiet e.after.device.die = playing.quiet quiet in
-    let no_fault : e.reply ≡ Fault → ⊥ = playing.no_fault quiet in
+    let never : e.reply ≡ Fault → ⊥ = playing.no_fault quiet in
     let none : NoFailure e = λ came. elim came [
       | inl cut ↦ omega (arith, cut.0, quiet_cut e.before.device.die.failures quiet)
       | inr read ↦ omega (arith, read.0, quiet_read e.before.device.die.failures quiet)
     ] in
-    let rules : ByRules d e = record {
-      book = record {
-        changes = s.moves.book.changes;
-        leads = s.moves.book.leads;
-        may = s.moves.book.may;
-        rise = s.moves.book.rise;
-        rises = s.moves.book.rises;
-        tally = s.moves.book.tally;
-        at_cut = λ cut. absurd (none (inl cut));
-      };
-      seq = s.moves.seq;
-    } in
-    record {
-      row = s.row;
-      stands_before = s.stands_before;
-      stands_after = s.stands_after;
-      off = s.off;
-      keeps = s.keeps;
-      placed = λ sector bytes tried.
-          let p : PlacedSo d e sector (filled_up d.geometry.sector_bytes bytes) = s.placed sector bytes tried in
-          record {
-            second = (λ h. (none, (p.second.0 h).1), λ h. p.second.1 (no_fault, h.1));
-            declined = (λ h. (none, (p.declined.0 h).1), λ h. p.declined.1 (no_fault, h.1));
-            first = (λ h. (none, (p.first.0 h).1), λ h. p.first.1 (no_fault, h.1));
-            over_unit = p.over_unit;
-            on_clean = p.on_clean;
-          };
-      fault = record { came = (λ h. absurd (no_fault h), λ h. absurd (none h)); one = λ cut read. none (inl cut); rose = s.cause };
-      answers = record {
-        refused = s.refused;
-        idle = s.idle;
-        no_spare = record {
-          only = λ said. absurd (no_spare_row d.geometry.sector_bytes e.before.array e.line e.after.array playing.played
-              (subst (λ (reply : Reply). Row d.geometry.sector_bytes e.before.array e.line reply e.after.array) said s.row));
-          always = λ mount. absurd (subst IsPlayed mount playing.played);
-        };
-        stays = s.stays;
-        stat = stat_answer e e.reply (λ first second declined moved erases said.
-            no_counts_row d.geometry.sector_bytes e.before.array e.line first second declined moved erases e.after.array playing.played
-            (subst (λ (reply : Reply). Row d.geometry.sector_bytes e.before.array e.line reply e.after.array) said s.row));
-        tallies = s.tallies;
-      };
-      true_book = s.true_book;
-      moves = book_of d e e.line e.reply playing.played rules s.moves.records;
-      armed = record {
-        arms = arms_none e e.line e.reply playing.played;
-        lowers = λ arming fault. quiet_lowers _ _ _ e.before.device.die e.after.device.die quiet after;
-        fault = λ fault. absurd (no_fault fault);
-      };
-      power = λ on tells. quiet_power e.after.device.die.failures after;
-      leaves = s.leaves;
-    }
+    exact_step d e.line e.reply e.before e.after playing.played s
+    (stat_answer e e.reply (λ first second declined moved erases said.
+    no_counts_row d.geometry.sector_bytes e.before.array e.line first second declined moved erases e.after.array playing.played
+    (subst (λ (reply : Reply). Row d.geometry.sector_bytes e.before.array e.line reply e.after.array) said s.row)))
+    (λ said. no_spare_row d.geometry.sector_bytes e.before.array e.line e.after.array playing.played
+    (subst (λ (reply : Reply). Row d.geometry.sector_bytes e.before.array e.line reply e.after.array) said s.row)) (no_fault e never none)
+    (record { book = book_at_cut s.moves.book (λ cut. absurd (none (inl cut))); seq = s.moves.seq }) (λ fault. quiet_lowers _ _ _ e.before.device.die e.after.device.die quiet after)
+    (λ fault. absurd (never fault)) (λ on. quiet_power e.after.device.die.failures after)
 
 play_runs : (d : Numbers) (before : View) (events : List Event) (after : View) → IsQuiet before.device.die → IsPlay d before events after → IsRun d before events after
 unfolding IsPlay IsRun

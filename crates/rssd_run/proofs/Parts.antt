@@ -1,8 +1,16 @@
 -- The parts of a step that many lines share.
-use Rattle.std.proofs.Common.{◌≡◌, ◌≢◌, inl, ℕ, Bool, true, false, List, arith, refl, ap, ◌∙◌, subst}
+use Rattle.std.proofs.Common.{◌≡◌, ◌≢◌, ◌⊎◌, inl, inr, Option, None, Some, sym, ℕ, Bool, true, false, List, arith, refl, ap, ◌∙◌, subst, []}
 use Rattle.cell_die.specs.DieState.{DieState}
 use Rattle.cell_die.proofs.Sequences.{never_falls_refl, never_falls_trans}
 use Rattle.rssd_script.specs.declared.replies.Reply.TheVariants.{Range, Long, Off as SaysOff, Fault, Spent}
+use Rattle.cell_die.specs.Calls.{PassedWithin}
+use Rattle.reuse_pool.specs.declared.unit.ReuseUnit.{ReuseUnit}
+use Rattle.rssd_script.specs.declared.lines.Line.{Line}
+use Rattle.rssd_script.specs.declared.lines.Line.TheVariants.{Write}
+use Rattle.rssd_script.specs.declared.replies.Reply.{Reply}
+use Rattle.rssd_core.specs.Within.{Went}
+use Rattle.rssd_core.specs.IdleRule.{IdleMoves, IdleUnfinished}
+use Rattle.rssd_core.specs.Writes.{OfferCarries, OfferDeclines, OverUnit}
 use Rattle.rssd_core.specs.BookChanges.{Change}
 use Rattle.rssd_core.specs.DeviceValue.{Numbers, DeviceView, DeviceValue}
 use Rattle.rssd_core.specs.Failures.{Tells}
@@ -10,7 +18,7 @@ use Rattle.rssd_core.specs.Moves.{MovesBook, MovesSeq, WhereCut, CollectAtCut}
 use Rattle.rssd_core.specs.Outcomes.{Holds, WriteFault, TrimFault, WriteFaultMay, TrimFaultMay, RisesSealed, WriteAtCut}
 use Rattle.rssd_core.specs.Writes.{OnCleanPage, GetsPage, TakesOver, WriteErased, TrimLeaves}
 use Rattle.rssd_run.specs.ArrayWithCuts.{ArrayState, On, Off}
-use Rattle.rssd_run.specs.View.{Event, IsOn, IsOff, NoFailure}
+use Rattle.rssd_run.specs.View.{View, Event, IsOn, IsOff, NoFailure}
 use Rattle.rssd_run.specs.Held.{Tallies, plus}
 use Rattle.rssd_run.specs.Step.{KeepsDie, RefusedExactly, FaultExactly, OutOfRange, TooLong, NumbersSpent}
 
@@ -98,3 +106,64 @@ pub trim_book_so : (d : Numbers) (old new : DeviceValue) (sector : ℕ) (stopped
     → MovesBook d (TrimFaultMay stopped) (RisesSealed old.view.book) (WhereCut (CollectAtCut old.view.book) old.view new.view) old.view new.view
 trim_book_so d old new sector stopped is w =
     subst (λ (t : Bool). MovesBook d (TrimFaultMay t) (RisesSealed old.view.book) (WhereCut (CollectAtCut old.view.book) old.view new.view) old.view new.view) is w.book
+
+-- ---- a line's event
+
+abbrev pub event_of : Line → Reply → View → View → Event
+event_of line reply before after = record { line = line; reply = reply; before = before; after = after }
+
+abbrev pub sector_in : Line → ℕ
+sector_in (Write sector bytes) = sector
+sector_in line = 0
+
+abbrev pub bytes_in : Line → List ℕ
+bytes_in (Write sector bytes) = bytes
+bytes_in line = []
+
+abbrev unit_in : ReuseUnit → Option ReuseUnit → ReuseUnit
+unit_in other None = other
+unit_in other (Some unit) = unit
+
+-- the one offered unit cannot both carry the sector and not carry it
+pub offered_both : (d : Numbers) (view : DeviceView) (row : List ℕ) → OfferCarries d view row → OfferDeclines d view row → ⊥
+offered_both d view row carries declines =
+    let same : carries.0 ≡ declines.0 = ap (unit_in carries.0) (sym carries.1 ∙ declines.1) in
+    declines.2 (rw (sym same) carries.2)
+
+pub over_plus : (d : Numbers) (base : Tallies) (old new : DeviceView) (sector : ℕ) (bytes : List ℕ) (unit : ReuseUnit)
+    → OverUnit d old new sector bytes unit → OverUnit d (plus base old) (plus base new) sector bytes unit
+over_plus d base old new sector bytes unit over = record { live = over.live; above = over.above; carries = over.carries; gives = over.gives }
+
+pub neither : {A B C : Type 0} → (A → ⊥) → (B → ⊥) → A ⊎ B → C
+neither f g (inl a) = absurd (f a)
+neither f g (inr b) = absurd (g b)
+
+pub moves_plus : (d : Numbers) (base : Tallies) (old new : DeviceView) (k : ℕ) → IdleMoves d old new k → IdleMoves d (plus base old) (plus base new) k
+moves_plus d base old new k m = record {
+  sectors = m.sectors;
+  count = m.count;
+  block = m.block;
+  fill = m.fill;
+  active = m.active;
+  in_order = record { distinct = m.in_order.distinct; moved = m.in_order.moved; others = m.in_order.others };
+  book = m.book;
+  by_rule = m.by_rule;
+  recycled = m.recycled;
+}
+
+pub unfinished_plus : (d : Numbers) (base : Tallies) (old new : DeviceView) (n : ℕ) → IdleUnfinished d n old new → IdleUnfinished d n (plus base old) (plus base new)
+unfinished_plus d base old new n m = record {
+  sectors = m.sectors;
+  some_left = m.some_left;
+  finished = m.finished;
+  mid = m.mid;
+  by_rule = m.by_rule;
+  one_more = m.one_more;
+  unfinished = elim m.unfinished [
+    | inl u ↦ inl (record { cells = u.cells; seq = u.seq; recycled = u.recycled; victim = u.victim; is_victim = u.is_victim; failed = u.failed; by_then = u.by_then })
+    | inr b ↦ inr (record { rows = b.rows; seq = b.seq; book = b.book; victim = b.victim; is_victim = b.is_victim; first = b.first; is_first = b.is_first; failed = b.failed })
+  ];
+}
+
+pub bounded : {changes reads : ℕ} {old new : DieState} → PassedWithin changes reads old new → Went changes reads (Unit {0}) old new
+bounded within = record { within = within; exact = λ not. absurd (not tt) }

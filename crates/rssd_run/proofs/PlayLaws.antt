@@ -1,5 +1,5 @@
 -- Each step of a play keeps the headline.
-use Rattle.std.proofs.Common.{◌⊎◌, ℕ, zero, suc, ◌≤◌, All, List, [], ◌∷◌, arith, subst}
+use Rattle.std.proofs.Common.{◌⊎◌, ℕ, ◌≤◌, All, List, [], ◌∷◌, arith, subst}
 use Rattle.std.specs.List.{AllByRecursion}
 use Rattle.std.proofs.lemmas.List.Elements.{All-from_recursion}
 use Rattle.rssd_script.specs.declared.lines.Line.{Line}
@@ -8,10 +8,10 @@ use Rattle.rssd_run.specs.ArrayWithCuts.{Row}
 use Rattle.rssd_run.specs.View.{View, Event}
 use Rattle.rssd_run.specs.Placing.{IsTried}
 use Rattle.rssd_run.specs.Step.{OutOfRange, TooLong, NumbersSpent}
-use Rattle.rssd_run.specs.Headline.{IsWritten, FaultsRose, view_at, ChargeNeverFalls}
+use Rattle.rssd_run.specs.Headline.{IsWritten, FaultsRose, ChargeNeverFalls}
 use Rattle.rssd_run.specs.Played.{IsPlayedStep}
 use Rattle.rssd_run.specs.PlayRuns.{IsPlay, KeepsPlayHeadline}
-use Rattle.rssd_run.proofs.Headline.{write_or, Charged, uncharged, charged_more}
+use Rattle.rssd_run.proofs.Headline.{write_or, KeepsCharge, charged_between}
 
 write_powered : (d : Numbers) (e : Event) → IsPlayedStep d e → (sector : ℕ) (bytes : List ℕ) → IsTried d e sector bytes → IsWritten e.reply ⊎ FaultsRose e
 write_powered d e step sector bytes tried =
@@ -42,24 +42,12 @@ plays_keep_headline d before events after play = All-from_recursion (KeepsPlayHe
 
 -- ---- charge, from any view to any later one
 
-charged_from : (d : Numbers) (before : View) (events : List Event) (after : View) → IsPlay d before events after → (lines : ℕ) → Charged before.device.die (view_at before events lines).device.die
+play_keeps : (d : Numbers) (before : View) (events : List Event) (after : View) → IsPlay d before events after → KeepsCharge before events
 unfolding IsPlay
-charged_from d before events after play zero = uncharged before.device.die
-charged_from d before [] after play (suc lines) = uncharged before.device.die
-charged_from d before (e ∷ events) after play (suc lines) =
+play_keeps d before [] after play = tt
+play_keeps d before (e ∷ events) after play =
     let step : IsPlayedStep d e = play.1.step in
-    let one : Charged e.before.device.die e.after.device.die = record { shape = step.keeps.shape; never_falls = step.keeps.never_falls } in
-    subst (λ (view : View). Charged view.device.die (view_at e.after events lines).device.die) play.0
-    (charged_more e.before.device.die e.after.device.die (view_at e.after events lines).device.die one (charged_from d e.after events after play.2 lines))
-
-charged_between : (d : Numbers) (before : View) (events : List Event) (after : View) → IsPlay d before events after → (i j : ℕ) → i ≤ j
-    → Charged (view_at before events i).device.die (view_at before events j).device.die
-unfolding IsPlay
-charged_between d before events after play zero j later = charged_from d before events after play j
-charged_between d before [] after play (suc i) zero later = absurd (omega (arith, later))
-charged_between d before [] after play (suc i) (suc j) later = uncharged before.device.die
-charged_between d before (e ∷ events) after play (suc i) zero later = absurd (omega (arith, later))
-charged_between d before (e ∷ events) after play (suc i) (suc j) later = charged_between d e.after events after play.2 i j (omega (arith, later))
+    (play.0, record { shape = step.keeps.shape; never_falls = step.keeps.never_falls }, play_keeps d e.after events after play.2)
 
 pub charge_never_falls : (d : Numbers) (before : View) (events : List Event) (after : View) → IsPlay d before events after → ChargeNeverFalls before events
-charge_never_falls d before events after play i j later = (charged_between d before events after play i j later).never_falls
+charge_never_falls d before events after play i j later = (charged_between before events (play_keeps d before events after play) i j later).never_falls

@@ -40,7 +40,7 @@ module _ (head : ImageHead) (die : DieState) (given : IsGivenBlank head die) whe
   some_blocks : 0 < head.blocks
   some_blocks = omega (arith, (head_limits head given.within).some_blocks)
 
-  blank : IsBlank (numbers_named head).geometry die.cells
+  pub blank : IsBlank (numbers_named head).geometry die.cells
   blank =
       let row : HasRow head.scheme (meaning_named head.scheme) = named_row head.scheme in
       record {
@@ -48,11 +48,11 @@ module _ (head : ImageHead) (die : DieState) (given : IsGivenBlank head die) whe
         blank = λ page within. given.blank.blank page within ∙ ap (λ (n : ℕ). replicate ((shape_of head).main_bytes + 16 * n) 0) (sym row.generations);
       }
 
-  sound : IsSound (numbers_named head).geometry die.cells
+  pub sound : IsSound (numbers_named head).geometry die.cells
   sound = blank_sound (numbers_named head).geometry die.cells some_blocks blank
 
-  never_full : EveryBlockLive (numbers_named head).geometry die → ⊥
-  never_full full =
+  pub no_block_live : EveryBlockLive (numbers_named head).geometry die → ⊥
+  no_block_live full =
       let live = full 0 some_blocks in
       let none = blank_counts (numbers_named head).geometry die.cells blank 0 in
       omega (arith, live, none)
@@ -73,7 +73,7 @@ module _ (head : ImageHead) (die : DieState) (given : IsGivenBlank head die) whe
     refused_so new OutOfMemory never shape refuses = refl
     refused_so new BadShape never shape refuses = absurd (shape refl given_fits)
     refused_so new DieFault never shape refuses = absurd (never refuses)
-    refused_so new NoSpare never shape refuses = absurd (never_full refuses.full)
+    refused_so new NoSpare never shape refuses = absurd (no_block_live refuses.full)
 
     pub never_refused : (new : DieState) (why : MountError) → (MountFails (numbers_named head) die new → ⊥) → (why ≡ BadShape → ¬ Fits die.shape meaning (plan_of head))
         → Refuses (numbers_of die.shape meaning (plan_of head)) die new why → why ≡ OutOfMemory
@@ -112,22 +112,25 @@ module _ (head : ImageHead) (die : DieState) (given : IsGivenBlank head die) whe
       book = mounts.true_book;
     }
 
-    -- the device's lines are a play from its first view
+    -- what its lines are from each view that it stands for they are from its first view
+    from_first : (Play : Numbers → View → View → Type 0)
+        → ((base : Tallies) (before : View) → ShowsHolding device.numbers base (Mounted device) before → IsSound device.numbers.geometry device.view.die.cells → TrueWhileRunning device.numbers device
+        → (after : View) × Play device.numbers before after) → (after : View) × Play (numbers_named head) first_view after
+    from_first Play plays =
+        let stands : Stands (numbers_named head) none device first_view = start_stands in
+        let so = plays none first_view
+        (subst (λ (d : Numbers). ShowsHolding d none (Mounted device) first_view) (sym mounts.numbers) stands.shows)
+        (subst (λ (d : Numbers). IsSound d.geometry device.view.die.cells) (sym mounts.numbers) stands.sound)
+        (subst (λ (d : Numbers). TrueWhileRunning d device) (sym mounts.numbers) stands.book) in
+        (so.0, subst (λ (d : Numbers). Play d first_view so.0) mounts.numbers so.1)
+
     module _ (P : Event → Type 0) (lines : List Line) (log log_after : List Act) where
       pub plays_from : PlaysLines P device lines log log_after → PlaysFrom (IsPlayStart head die) P (numbers_named head) lines log log_after
       plays_from plays =
-          let stands : Stands (numbers_named head) none device first_view = start_stands in
-          let so = plays none first_view
-          (subst (λ (d : Numbers). ShowsHolding d none (Mounted device) first_view) (sym mounts.numbers) stands.shows)
-          (subst (λ (d : Numbers). IsSound d.geometry device.view.die.cells) (sym mounts.numbers) stands.sound)
-          (subst (λ (d : Numbers). TrueWhileRunning d device) (sym mounts.numbers) stands.book) in
-          record { before = first_view; start = play_start; after = so.0; play = subst (λ (d : Numbers). PlayOf P d first_view lines so.0 log log_after) mounts.numbers so.1 }
+          let so = from_first (λ d before after. PlayOf P d before lines after log log_after) plays in
+          record { before = first_view; start = play_start; after = so.0; play = so.1 }
 
       pub plays_front_from : CutsOffPlay P device lines log log_after → PlaysFrontFrom (IsPlayStart head die) P (numbers_named head) lines log log_after
       plays_front_from plays =
-          let stands : Stands (numbers_named head) none device first_view = start_stands in
-          let so = plays none first_view
-          (subst (λ (d : Numbers). ShowsHolding d none (Mounted device) first_view) (sym mounts.numbers) stands.shows)
-          (subst (λ (d : Numbers). IsSound d.geometry device.view.die.cells) (sym mounts.numbers) stands.sound)
-          (subst (λ (d : Numbers). TrueWhileRunning d device) (sym mounts.numbers) stands.book) in
-          record { before = first_view; start = play_start; after = so.0; play = subst (λ (d : Numbers). PlayCutOff P d first_view lines so.0 log log_after) mounts.numbers so.1 }
+          let so = from_first (λ d before after. PlayCutOff P d before lines after log log_after) plays in
+          record { before = first_view; start = play_start; after = so.0; play = so.1 }

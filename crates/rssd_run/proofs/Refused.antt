@@ -14,6 +14,7 @@ use Rattle.rssd_run.specs.Armed.{Arms, change_calls, read_calls}
 use Rattle.rssd_run.specs.Leaves.{Leaves}
 use Rattle.rssd_run.specs.Moves.{BookMoves, ByRules, MayChange, RisesBy}
 use Rattle.rssd_run.specs.Placing.{IsTried, PlacedExactly}
+use Rattle.rssd_run.specs.Step.{IsRefusal}
 use Rattle.rssd_run.specs.Step.{IsStep, RefusedExactly, OutOfRange, TooLong, NumbersSpent, AlwaysAnswered, firsts, seconds, declines, IdleAnswer, StatAnswer, TrueWhileOn}
 use Rattle.rssd_run.specs.Steps.{IsKept, Steps}
 use Rattle.rssd_run.specs.Shows.{stat_of}
@@ -21,7 +22,7 @@ use Rattle.rssd_run.proofs.Came.{none_came}
 use Rattle.rssd_run.proofs.Parts.{no_fault, keeps_same, keeps_none, not_both}
 use Rattle.rssd_run.proofs.Still.{same_book, same_seq, lowers_none}
 use Rattle.rssd_run.proofs.MountSteps.{never_refused}
-use Rattle.rssd_run.proofs.WriteSteps.{event_of, sector_in, bytes_in}
+use Rattle.rssd_run.proofs.Parts.{event_of, sector_in, bytes_in}
 use Rattle.rssd_run.proofs.Stepped.{runs_on}
 
 -- what must hold of a line and a reply that leave a view as it is
@@ -123,108 +124,93 @@ still_steps d old kept running line reply stays =
     runs_on d line reply old old kept (keeps_none d old.view.die) running
     (λ calm base. stays_step d (on d base old) line reply refl (λ o. kept.book running) (λ o tells. kept.power running) (omega arith) (omega arith) (omega arith) (stays base))
 
+-- a reply that refuses is no fault, counts nothing and tells nothing
+record IsMute (e : Event) (reply : Reply) : Type 0 where
+  no_fault : reply ≢ Fault
+  no_spare : reply ≢ NoSpare
+  tallies : (firsts reply ≡ 0) × (seconds reply ≡ 0) × (declines reply ≡ 0)
+  stat : StatAnswer e reply
+
+mute : (e : Event) (reply : Reply) → IsRefusal reply → IsMute e reply
+mute e SaysOff is = record { no_fault = λ h. cc; no_spare = λ h. cc; tallies = (refl, refl, refl); stat = tt }
+mute e Range is = record { no_fault = λ h. cc; no_spare = λ h. cc; tallies = (refl, refl, refl); stat = tt }
+mute e Long is = record { no_fault = λ h. cc; no_spare = λ h. cc; tallies = (refl, refl, refl); stat = tt }
+mute e Spent is = record { no_fault = λ h. cc; no_spare = λ h. cc; tallies = (refl, refl, refl); stat = tt }
+mute e reply is = absurd is
+
+-- what else must hold of a line that is refused
+record RefusedStays (d : Numbers) (v : View) (line : Line) (reply : Reply) : Type 0 where
+  no_mount : line ≢ Mount
+  idle : IdleAnswer (event_of line reply v v) line reply
+  moves : BookMoves d (event_of line reply v v) line reply
+  arms : Arms (event_of line reply v v) line reply
+  leaves : Leaves d (event_of line reply v v) line reply
+  calls : (change_calls d v.device line reply ≡ 0) × (read_calls d v.device line reply ≡ 0)
+
+refused_stays : (d : Numbers) (v : View) (line : Line) (reply : Reply) → IsRefusal reply → RefusedStays d v line reply → Row d.geometry.sector_bytes v.array line reply v.array
+    → RefusedExactly d (event_of line reply v v)
+    → ((sector : ℕ) (bytes : List ℕ) → IsTried d (event_of line reply v v) sector bytes → PlacedExactly d (event_of line reply v v) sector (filled_up d.geometry.sector_bytes bytes))
+    → Stays d v line reply
+refused_stays d v line reply is rest row exactly placed =
+    let says : IsMute (event_of line reply v v) reply = mute (event_of line reply v v) reply is in
+    record {
+      row = row;
+      refused = exactly;
+      placed = placed;
+      no_fault = says.no_fault;
+      no_spare = says.no_spare;
+      tallies = says.tallies;
+      stat = says.stat;
+      no_mount = rest.no_mount;
+      idle = rest.idle;
+      moves = rest.moves;
+      arms = rest.arms;
+      leaves = rest.leaves;
+      calls = rest.calls;
+    }
+
 module _ (d : Numbers) (old : DeviceValue) (base : Tallies) where
   pub write_range : (sector : ℕ) (bytes : List ℕ) → d.geometry.sectors ≤ sector → Stays d (on d base old) (Write sector bytes) Range
-  write_range sector bytes far = record {
-    row = refl;
-    refused = is_range d (event_of (Write sector bytes) Range (on d base old) (on d base old)) tt far refl;
-    no_fault = λ h. cc;
-    no_spare = λ h. cc;
-    no_mount = λ h. cc;
-    tallies = (refl, refl, refl);
-    idle = tt;
-    stat = tt;
-    moves = (still_moves d (on d base old) (Write sector bytes) Range (omega arith) refl refl, tt);
-    arms = tt;
-    leaves = refl;
-    calls = (refl, refl);
-    placed = λ s b t. absurd (omega (arith, far, t.in_range, ap sector_in t.write));
-  }
+  write_range sector bytes far =
+      refused_stays d (on d base old) (Write sector bytes) Range tt
+      (record { no_mount = λ h. cc; idle = tt; moves = (still_moves d (on d base old) (Write sector bytes) Range (omega arith) refl refl, tt); arms = tt; leaves = refl; calls = (refl, refl) })
+      refl (is_range d (event_of (Write sector bytes) Range (on d base old) (on d base old)) tt far refl)
+      (λ s b t. absurd (omega (arith, far, t.in_range, ap sector_in t.write)))
 
   pub write_long : (sector : ℕ) (bytes : List ℕ) → sector < d.geometry.sectors → d.geometry.sector_bytes < length bytes → Stays d (on d base old) (Write sector bytes) Long
-  write_long sector bytes near many = record {
-    row = refl;
-    refused = is_long d (event_of (Write sector bytes) Long (on d base old) (on d base old)) tt (λ far. omega (arith, near, far)) many refl;
-    no_fault = λ h. cc;
-    no_spare = λ h. cc;
-    no_mount = λ h. cc;
-    tallies = (refl, refl, refl);
-    idle = tt;
-    stat = tt;
-    moves = (still_moves d (on d base old) (Write sector bytes) Long (omega arith) refl refl, tt);
-    arms = tt;
-    leaves = refl;
-    calls = (refl, refl);
-    placed = λ s b t. absurd (omega (arith, many, t.fits, ap length (ap bytes_in t.write)));
-  }
+  write_long sector bytes near many =
+      refused_stays d (on d base old) (Write sector bytes) Long tt
+      (record { no_mount = λ h. cc; idle = tt; moves = (still_moves d (on d base old) (Write sector bytes) Long (omega arith) refl refl, tt); arms = tt; leaves = refl; calls = (refl, refl) })
+      refl (is_long d (event_of (Write sector bytes) Long (on d base old) (on d base old)) tt (λ far. omega (arith, near, far)) many refl)
+      (λ s b t. absurd (omega (arith, many, t.fits, ap length (ap bytes_in t.write))))
 
   pub write_spent : (sector : ℕ) (bytes : List ℕ) → sector < d.geometry.sectors → length bytes ≤ d.geometry.sector_bytes → 2 ^ 62 ≤ old.view.seq → Stays d (on d base old) (Write sector bytes) Spent
-  write_spent sector bytes near fits spent = record {
-    row = refl;
-    refused = is_spent d (event_of (Write sector bytes) Spent (on d base old) (on d base old)) tt (λ far. omega (arith, near, far)) (λ many. omega (arith, fits, many)) spent refl;
-    no_fault = λ h. cc;
-    no_spare = λ h. cc;
-    no_mount = λ h. cc;
-    tallies = (refl, refl, refl);
-    idle = tt;
-    stat = tt;
-    moves = (still_moves d (on d base old) (Write sector bytes) Spent (omega arith) refl refl, tt);
-    arms = tt;
-    leaves = refl;
-    calls = (refl, refl);
-    placed = λ s b t. absurd (omega (arith, t.numbers, spent));
-  }
+  write_spent sector bytes near fits spent =
+      refused_stays d (on d base old) (Write sector bytes) Spent tt
+      (record { no_mount = λ h. cc; idle = tt; moves = (still_moves d (on d base old) (Write sector bytes) Spent (omega arith) refl refl, tt); arms = tt; leaves = refl; calls = (refl, refl) })
+      refl (is_spent d (event_of (Write sector bytes) Spent (on d base old) (on d base old)) tt (λ far. omega (arith, near, far)) (λ many. omega (arith, fits, many)) spent refl)
+      (λ s b t. absurd (omega (arith, t.numbers, spent)))
 
   pub read_range : (sector : ℕ) → d.geometry.sectors ≤ sector → Stays d (on d base old) (Read sector) Range
-  read_range sector far = record {
-    row = refl;
-    refused = is_range d (event_of (Read sector) Range (on d base old) (on d base old)) tt far refl;
-    no_fault = λ h. cc;
-    no_spare = λ h. cc;
-    no_mount = λ h. cc;
-    tallies = (refl, refl, refl);
-    idle = tt;
-    stat = tt;
-    moves = (still_moves d (on d base old) (Read sector) Range (omega arith) refl refl, tt);
-    arms = tt;
-    leaves = refl;
-    calls = (refl, refl);
-    placed = λ s b t. absurd (let l = t.write in cc);
-  }
+  read_range sector far =
+      refused_stays d (on d base old) (Read sector) Range tt
+      (record { no_mount = λ h. cc; idle = tt; moves = (still_moves d (on d base old) (Read sector) Range (omega arith) refl refl, tt); arms = tt; leaves = refl; calls = (refl, refl) })
+      refl (is_range d (event_of (Read sector) Range (on d base old) (on d base old)) tt far refl)
+      (λ s b t. absurd (let l = t.write in cc))
 
   pub trim_range : (sector : ℕ) → d.geometry.sectors ≤ sector → Stays d (on d base old) (Trim sector) Range
-  trim_range sector far = record {
-    row = refl;
-    refused = is_range d (event_of (Trim sector) Range (on d base old) (on d base old)) tt far refl;
-    no_fault = λ h. cc;
-    no_spare = λ h. cc;
-    no_mount = λ h. cc;
-    tallies = (refl, refl, refl);
-    idle = tt;
-    stat = tt;
-    moves = (still_moves d (on d base old) (Trim sector) Range (omega arith) refl refl, tt);
-    arms = tt;
-    leaves = refl;
-    calls = (refl, refl);
-    placed = λ s b t. absurd (let l = t.write in cc);
-  }
+  trim_range sector far =
+      refused_stays d (on d base old) (Trim sector) Range tt
+      (record { no_mount = λ h. cc; idle = tt; moves = (still_moves d (on d base old) (Trim sector) Range (omega arith) refl refl, tt); arms = tt; leaves = refl; calls = (refl, refl) })
+      refl (is_range d (event_of (Trim sector) Range (on d base old) (on d base old)) tt far refl)
+      (λ s b t. absurd (let l = t.write in cc))
 
   pub trim_spent : (sector : ℕ) → sector < d.geometry.sectors → 2 ^ 62 ≤ old.view.seq → Stays d (on d base old) (Trim sector) Spent
-  trim_spent sector near spent = record {
-    row = refl;
-    refused = is_spent d (event_of (Trim sector) Spent (on d base old) (on d base old)) tt (λ far. omega (arith, near, far)) (λ many. many) spent refl;
-    no_fault = λ h. cc;
-    no_spare = λ h. cc;
-    no_mount = λ h. cc;
-    tallies = (refl, refl, refl);
-    idle = tt;
-    stat = tt;
-    moves = (still_moves d (on d base old) (Trim sector) Spent (omega arith) refl refl, tt);
-    arms = tt;
-    leaves = refl;
-    calls = (refl, refl);
-    placed = λ s b t. absurd (let l = t.write in cc);
-  }
+  trim_spent sector near spent =
+      refused_stays d (on d base old) (Trim sector) Spent tt
+      (record { no_mount = λ h. cc; idle = tt; moves = (still_moves d (on d base old) (Trim sector) Spent (omega arith) refl refl, tt); arms = tt; leaves = refl; calls = (refl, refl) })
+      refl (is_spent d (event_of (Trim sector) Spent (on d base old) (on d base old)) tt (λ far. omega (arith, near, far)) (λ many. many) spent refl)
+      (λ s b t. absurd (let l = t.write in cc))
 
 -- ---- while the session is off, and `stat`
 
@@ -249,16 +235,7 @@ off_row size (Off a b) (FailRead n) here never = refl
 off_row size (Off a b) Mount here never = absurd (never tt)
 off_row size (Off a b) Stat here never = absurd (never tt)
 
--- what else must hold of a line that is answered `off`
-record OffStays (d : Numbers) (v : View) (line : Line) : Type 0 where
-  no_mount : line ≢ Mount
-  idle : IdleAnswer (event_of line SaysOff v v) line SaysOff
-  moves : BookMoves d (event_of line SaysOff v v) line SaysOff
-  arms : Arms (event_of line SaysOff v v) line SaysOff
-  leaves : Leaves d (event_of line SaysOff v v) line SaysOff
-  calls : (change_calls d v.device line SaysOff ≡ 0) × (read_calls d v.device line SaysOff ≡ 0)
-
-off_stays : (d : Numbers) (v : View) (line : Line) → v.device.moved < 2 ^ 64 → (AlwaysAnswered line → ⊥) → OffStays d v line
+off_stays : (d : Numbers) (v : View) (line : Line) → v.device.moved < 2 ^ 64 → (AlwaysAnswered line → ⊥) → RefusedStays d v line SaysOff
 off_stays d v (Write sector bytes) small never =
     record { no_mount = λ h. cc; idle = tt; moves = (still_moves d v (Write sector bytes) SaysOff small refl refl, tt); arms = tt; leaves = refl; calls = (refl, refl) }
 off_stays d v (Read sector) small never = record { no_mount = λ h. cc; idle = tt; moves = (still_moves d v (Read sector) SaysOff small refl refl, tt); arms = tt; leaves = refl; calls = (refl, refl) }
@@ -271,22 +248,9 @@ off_stays d v Stat small never = absurd (never tt)
 
 pub off_step : (d : Numbers) (v : View) (line : Line) → StandsFor d v → IsOff v.array → IsSmall v.device → (AlwaysAnswered line → ⊥) → IsStep d (event_of line SaysOff v v)
 off_step d v line stands here small never =
-    let rest = off_stays d v line small.moved never in
-    stays_step d v line SaysOff stands (λ on. absurd (not_on v.array here on)) (λ on. absurd (not_on v.array here on)) small.first small.second small.declined (record {
-      row = off_row d.geometry.sector_bytes v.array line here never;
-      refused = is_off d (event_of line SaysOff v v) here never refl;
-      no_fault = λ h. cc;
-      no_spare = λ h. cc;
-      no_mount = rest.no_mount;
-      tallies = (refl, refl, refl);
-      idle = rest.idle;
-      stat = tt;
-      moves = rest.moves;
-      arms = rest.arms;
-      leaves = rest.leaves;
-      calls = rest.calls;
-      placed = λ s b t. absurd (not_on v.array here t.on);
-    })
+    stays_step d v line SaysOff stands (λ on. absurd (not_on v.array here on)) (λ on. absurd (not_on v.array here on)) small.first small.second small.declined
+    (refused_stays d v line SaysOff tt (off_stays d v line small.moved never) (off_row d.geometry.sector_bytes v.array line here never) (is_off d (event_of line SaysOff v v) here never refl)
+    (λ s b t. absurd (not_on v.array here t.on)))
 
 stat_row : (size : ℕ) (array : ArrayState) (first second declined moved erases : ℕ) → Row size array Stat (Counts first second declined moved erases) array
 stat_row size (On rows) first second declined moved erases = refl

@@ -14,17 +14,19 @@ use Rattle.rssd_core.specs.SectorArray.{filled_up, written, trimmed, without_zer
 use Rattle.rssd_core.specs.DeviceValue.{Numbers, DeviceValue, rows_of, with_die}
 use Rattle.rssd_core.specs.Failures.{Tells, TellsPower}
 use Rattle.rssd_core.specs.Within.{Went, WithinWrite, WithinTrim, WithinIdle, sector_reads}
-use Rattle.rssd_core.specs.Outcomes.{Holds, Wrote, WriteFault, Trimmed, TrimFault, Idled, IdleFault, OnlyDie, Faulted, ReadFault, ChangeFault, TrueWhileRunning}
+use Rattle.rssd_core.specs.Outcomes.{Holds, Wrote, WriteFault, Trimmed, TrimFault, Idled, IdleFault, OnlyDie, Faulted, ReadFault, ChangeFault}
 use Rattle.rssd_run.specs.ArrayWithCuts.{On, Off}
 use Rattle.rssd_run.specs.Held.{Tallies, on, off, Calm, reply_of}
 use Rattle.rssd_run.proofs.LineSteps.{cut_step, fail_read_step, read_step, read_fault_step}
-use Rattle.rssd_run.proofs.CommandSteps.{bounded, trimmed_step, trim_read_fault, trim_change_fault, idled_step, idle_read_fault, idle_change_fault}
+use Rattle.rssd_run.proofs.CommandSteps.{trimmed_step, trim_read_fault, trim_change_fault, idled_step, idle_read_fault, idle_change_fault}
 use Rattle.rssd_run.specs.Armed.{form_of_word}
 use Rattle.rssd_run.specs.Step.{IsStep, KeepsDie}
+use Rattle.rssd_run.specs.Played.{WriteFailed, TrimFailed}
 use Rattle.rssd_run.specs.Steps.{IsKept, Steps, ArrayIs}
 use Rattle.rssd_run.proofs.Came.{power_tells, went_tells, change_failed_tells, read_failed_tells, went_power, AReadCame, read_came, powered_case, passed_went}
 use Rattle.rssd_run.proofs.Still.{keeps_die, still_tells, still_powered}
-use Rattle.rssd_run.proofs.WriteSteps.{event_of, Tried, wrote_first, wrote_second, wrote_declined, write_read_fault, write_change_fault}
+use Rattle.rssd_run.proofs.Parts.{event_of, bounded}
+use Rattle.rssd_run.proofs.WriteSteps.{wrote_step, write_read_fault, write_change_fault}
 
 pub change_tells : {changes reads : ℕ} (old new : DieState) → TellsPower old → ChangeFailed changes reads old new → Tells new
 change_tells {changes} {reads} old new power failed =
@@ -99,44 +101,46 @@ pub wrote_steps : (d : Numbers) (sector : ℕ) (bytes : List ℕ) (placed : Plac
     → old.stopped ≡ false → Holds d old new → Wrote d sector (filled_up d.geometry.sector_bytes bytes) placed old new → Steps d (Write sector bytes) (reply_of placed) old new
 wrote_steps d sector bytes PutFirst old new in_range fits kept running holds w =
     went_steps d old new kept running holds (Write sector bytes) First w.calls w.running
-    (λ base. wrote_first d base old new sector bytes (record { in_range = in_range; fits = fits; numbers = w.fresh }) (kept.power running) holds w)
+    (λ base. wrote_step d base old new sector bytes PutFirst (kept.power running) (record { in_range = in_range; fits = fits; holds = holds; wrote = w }))
 wrote_steps d sector bytes PutSecond old new in_range fits kept running holds w =
     went_steps d old new kept running holds (Write sector bytes) Second w.calls w.running
-    (λ base. wrote_second d base old new sector bytes (record { in_range = in_range; fits = fits; numbers = w.fresh }) (kept.power running) holds w)
+    (λ base. wrote_step d base old new sector bytes PutSecond (kept.power running) (record { in_range = in_range; fits = fits; holds = holds; wrote = w }))
 wrote_steps d sector bytes PutDeclined old new in_range fits kept running holds w =
     went_steps d old new kept running holds (Write sector bytes) Declined w.calls w.running
-    (λ base. wrote_declined d base old new sector bytes (record { in_range = in_range; fits = fits; numbers = w.fresh }) (kept.power running) holds w)
+    (λ base. wrote_step d base old new sector bytes PutDeclined (kept.power running) (record { in_range = in_range; fits = fits; holds = holds; wrote = w }))
 
 pub write_fault_steps : (d : Numbers) (sector : ℕ) (bytes : List ℕ) (old new : DeviceValue) → sector < d.geometry.sectors → length bytes ≤ d.geometry.sector_bytes → IsKept d old
     → old.stopped ≡ false → Holds d old new → WriteFault d sector (filled_up d.geometry.sector_bytes bytes) old new → Steps d (Write sector bytes) Fault old new
 write_fault_steps d sector bytes old new in_range fits kept running holds w =
-    let tried : Tried d old sector bytes = record { in_range = in_range; fits = fits; numbers = w.fresh } in
+    let failed : WriteFailed d sector bytes old new = record { in_range = in_range; fits = fits; holds = holds; fault = w } in
     fault_steps d old new kept running holds (Write sector bytes) (WithinWrite d old.view (filled_up d.geometry.sector_bytes bytes))
     (written d.geometry.sector_bytes (rows_of d old.view) sector bytes) w.fault
-    (λ f base. write_read_fault d base old new sector bytes tried (kept.power running) holds w f)
-    (λ f calm base. write_change_fault d base old new sector bytes tried (kept.power running) calm holds w f)
+    (λ f base. write_read_fault d base old new sector bytes (kept.power running) failed f)
+    (λ f calm base. write_change_fault d base old new sector bytes (kept.power running) calm failed f)
 
 -- ---- trims and idle calls
 
 pub trimmed_steps : (d : Numbers) (sector : ℕ) (old new : DeviceValue) → sector < d.geometry.sectors → IsKept d old → old.stopped ≡ false → Holds d old new
     → Trimmed d sector old new → Steps d (Trim sector) Done old new
 trimmed_steps d sector old new in_range kept running holds w =
-    went_steps d old new kept running holds (Trim sector) Done w.calls w.running (λ base. trimmed_step d base old new sector in_range (kept.power running) holds w)
+    went_steps d old new kept running holds (Trim sector) Done w.calls w.running
+    (λ base. trimmed_step d base old new sector (kept.power running) (record { in_range = in_range; holds = holds; trimmed = w }))
 
 pub trim_fault_steps : (d : Numbers) (sector : ℕ) (old new : DeviceValue) → sector < d.geometry.sectors → IsKept d old → old.stopped ≡ false → Holds d old new
     → TrimFault d sector old new → Steps d (Trim sector) Fault old new
 trim_fault_steps d sector old new in_range kept running holds w =
+    let failed : TrimFailed d sector old new = record { in_range = in_range; holds = holds; fault = w } in
     fault_steps d old new kept running holds (Trim sector) (WithinTrim d old.view sector) (trimmed d.geometry.sector_bytes (rows_of d old.view) sector) w.fault
-    (λ f base. trim_read_fault d base old new sector in_range (kept.power running) holds w f) (λ f calm base. trim_change_fault d base old new sector in_range (kept.power running) calm holds w f)
+    (λ f base. trim_read_fault d base old new sector (kept.power running) failed f) (λ f calm base. trim_change_fault d base old new sector (kept.power running) calm failed f)
 
 pub idled_steps : (d : Numbers) (n k : ℕ) (old new : DeviceValue) → IsKept d old → old.stopped ≡ false → Holds d old new → Idled d n k old new → Steps d (Idle n) (Moves k) old new
 idled_steps d n k old new kept running holds w =
-    went_steps d old new kept running holds (Idle n) (Moves k) (bounded w.calls) w.running (λ base. idled_step d base old new n k (kept.power running) holds w)
+    went_steps d old new kept running holds (Idle n) (Moves k) (bounded w.calls) w.running (λ base. idled_step d base old new n (kept.power running) holds k w)
 
 pub idle_fault_steps : (d : Numbers) (n : ℕ) (old new : DeviceValue) → IsKept d old → old.stopped ≡ false → Holds d old new → IdleFault d n old new → Steps d (Idle n) Fault old new
 idle_fault_steps d n old new kept running holds w =
     fault_steps d old new kept running holds (Idle n) (WithinIdle d n old.view new.view) (rows_of d old.view) w.fault
-    (λ f base. idle_read_fault d base old new n (kept.power running) holds w f) (λ f calm base. idle_change_fault d base old new n (kept.power running) calm holds w f)
+    (λ f base. idle_read_fault d base old new n (kept.power running) holds w f) (λ f calm base. idle_change_fault d base old new n (kept.power running) holds calm w f)
 
 -- ---- lines that arm failures: the die tells as before, and keeps its power
 
@@ -170,21 +174,17 @@ fail_read_steps d old n some kept running =
 -- after a read nothing but the die differs
 module _ (d : Numbers) (old new : DeviceValue) (sector : ℕ) (in_range : sector < d.geometry.sectors) (kept : IsKept d old) (running : old.stopped ≡ false) (holds : Holds d old new)
     (only : OnlyDie old new) where
-  is_over : new ≡ with_die (λ before. new.view.die) old
-  is_over = only.rest
-
-  book_over : TrueWhileRunning d (with_die (λ before. new.view.die) old)
-  book_over = rw is_over at holds.true_book
+  runs : new.stopped ≡ false
+  runs = ap (λ device. device.stopped) only.rest ∙ running
 
   pub read_steps : (bytes : List ℕ) → Passed 0 (sector_reads d old.view sector) old.view.die new.view.die → bytes ≡ without_zeros (slice_index_or (rows_of d old.view) sector [])
       → Steps d (Read sector) (Bytes bytes) old new
   read_steps bytes passed is_row =
-      went_steps d old new kept running holds (Read sector) (Bytes bytes) (passed_went {Bounded = ⊥} passed) (ap (λ device. device.stopped) is_over ∙ running)
-      (λ base. rw is_over (read_step d base old new.view.die sector bytes in_range running (kept.power running) book_over holds.kept.shape only.cells passed is_row))
+      went_steps d old new kept running holds (Read sector) (Bytes bytes) (passed_went {Bounded = ⊥} passed) runs
+      (λ base. read_step d base old new sector (kept.power running) bytes (record { in_range = in_range; holds = holds; only_die = only; calls = passed; row = is_row }) runs)
 
   pub read_fault_steps : ReadFailed 0 (sector_reads d old.view sector) old.view.die new.view.die → Steps d (Read sector) Fault old new
   read_fault_steps failed =
       let came : AReadCame 0 (sector_reads d old.view sector) old.view.die new.view.die = read_came old.view.die new.view.die (kept.power running) failed in
-      runs_on d (Read sector) Fault old new (kept_on d old new kept running holds came.power) (die_kept d old new kept running holds (read_failed_tells old.view.die new.view.die failed))
-      (ap (λ device. device.stopped) is_over ∙ running)
-      (λ calm base. rw is_over (read_fault_step d base old new.view.die sector in_range running (kept.power running) book_over holds.kept.shape only.cells failed))
+      runs_on d (Read sector) Fault old new (kept_on d old new kept running holds came.power) (die_kept d old new kept running holds (read_failed_tells old.view.die new.view.die failed)) runs
+      (λ calm base. read_fault_step d base old new sector (kept.power running) (record { in_range = in_range; holds = holds; only_die = only; failed = failed }) runs)

@@ -1,6 +1,7 @@
 -- What is passed from the end are zeros, and the byte before them is none.
 use Rattle.std.proofs.Common.{arith, sym, ◌∙◌}
-use Rattle.rssd_run.proofs.Zeros.{zeros_alone, zeros_step, zeros_end, trimmed}
+use Rattle.rssd_run.proofs.Zeros.{zeros_alone}
+use Rattle.image_audit.proofs.Zeros.{zeros_step, zeros_end, trimmed}
 use Rattle.rssd_run.proofs.row.length_without_zeros.Goals as goal
 
 pub returns-then-is_blank-clause-bytes : goal.returns-then-is_blank-clause-bytes
