@@ -7,7 +7,7 @@ use Rattle.rssd_io.specs.Event.{Event, Grows, HasFailed}
 use Rattle.rssd_io.proofs.Logs.{came_behind}
 use Rattle.rssd_script.specs.declared.lines.Line.{Line}
 use Rattle.lab_lines.specs.declared.lines.LinesEnd.{LinesEnd}
-use Rattle.lab_tables.proofs.Failing.{failed_later}
+use Rattle.lab_stream.proofs.Takes.{failed_later}
 use Rattle.rssd_lab.specs.declared.telling.Telling.{Telling}
 use Rattle.rssd_lab.specs.declared.score.Score.{Score}
 use Rattle.rssd_lab.specs.declared.status.Stop.{Stop}
