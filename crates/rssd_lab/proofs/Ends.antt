@@ -8,7 +8,10 @@ use Rattle.rssd_script.specs.declared.lines.Line.{Line}
 use Rattle.rssd_script.specs.declared.lines.Line.TheVariants.{Write, Read, Trim, Idle}
 use Rattle.rssd_run.specs.Played.{IsPlayed}
 use Rattle.rssd_run.specs.Statuses.{Input, Output, IsUntouched, input, output}
+use Rattle.die_image.specs.Schemes.{row_of}
+use Rattle.die_image.specs.declared.head.ImageHead.{ImageHead}
 use Rattle.lab_lines.specs.declared.drawn.Drawn.{Drawn}
+use Rattle.lab_lines.specs.declared.drawn.Plan.{Plan}
 use Rattle.lab_lines.specs.declared.lines.LinesEnd.{LinesEnd}
 use Rattle.lab_lines.specs.declared.lines.LinesEnd.TheVariants as ends
 use Rattle.lab_lines.specs.Given.{AllGiven}
@@ -16,12 +19,13 @@ use Rattle.lab_lines.specs.Workload.{DrawPlan, DrawState, drawn_line, drawn_from
 use Rattle.lab_lines.specs.Drawing.{plan_of, state_of, left_of, DrawsLine, DrawsNone}
 use Rattle.lab_lines.proofs.FirstLines.{first_lines}
 use Rattle.lab_stream.specs.declared.stream.Stream.{Stream}
-use Rattle.lab_stream.specs.Streaming.{ahead_of, lines_of, TakesLine, TakesNone, StopsStream}
+use Rattle.lab_stream.specs.Streaming.{ahead_of, lines_of, source_of, TakesLine, TakesNone, StopsStream}
 use Rattle.lab_stream.specs.Spelled.{Streamed}
 use Rattle.lab_stream.proofs.Spelled.{streamed, streamed_text, streamed_bad, counted}
 use Rattle.lab_lines.specs.declared.kind.Kind.{Kind}
 use Rattle.lab_words.specs.declared.asked.LinesFrom.{LinesFrom}
 use Rattle.lab_words.specs.declared.asked.LinesFrom.TheVariants.{Stream as FromStream, Drawn as FromDrawn}
+use Rattle.lab_words.specs.Orders.{IsDrawnWithin}
 use Rattle.rssd_lab.specs.declared.telling.Telling.{Telling}
 use Rattle.rssd_lab.specs.declared.stage.Stage.{Stage}
 use Rattle.rssd_lab.specs.declared.status.Halt.{Halt}
@@ -66,6 +70,12 @@ abbrev Stops : {S P : Type 0} → (S → List Event) → Paced (Stream S) P → 
 Stops log old why new = StopsStream log (inner_of old) why (inner_of new)
 
 -- ---- the lines of the input
+
+-- what holds of the source of the lines at first and at last, holds of the input and of what comes back
+pub of_input : {S P : Type 0} (Holds : S → S → Type 0) (old new : Paced (Stream S) P) {first last : Stream S} {from back : S}
+    → inner_of old ≡ first → source_of first ≡ from → back ≡ source_of last → last ≡ inner_of new → Holds (source_of (inner_of old)) (source_of (inner_of new)) → Holds from back
+of_input {S} Holds old new {first} {last} {from} {back} begins of_first of_last ends holds =
+    subst (λ (s : S). Holds s back) (ap source_of begins ∙ of_first) (subst (λ (s : S). Holds (source_of (inner_of old)) s) (sym (of_last ∙ ap source_of ends)) holds)
 
 module _ {S P : Type 0} (log : S → List Event) (telling : Telling) (Start : DeviceValue → Type 0) (old new : Paced (Stream S) P)
     (none_ahead : ahead_of (inner_of old) ≡ []) (none_counted : lines_of (inner_of old) ≡ 0) (out : List Event) where
@@ -315,6 +325,20 @@ drawn_halts telling stage old new seed start few out out_after (Ended status) st
     stopped_drawn telling (StartOn stage) old new seed start few out stop.0 stop.1 out_after status stop.2 stop.3
 
 -- ---- an order
+
+-- lines that are drawn for an order are drawn for the device of its head
+pub drawn_plan : (drawn : Drawn) {plan : Plan} {head on : ImageHead} {kind : Kind} {idle : ℕ}
+    → plan_of drawn ≡ record { kind = plan.kind; sectors = plan.sectors; sector_bytes = plan.sector_bytes; idle = plan.idle }
+    → plan ≡ record { kind = kind; sectors = head.sectors; sector_bytes = (row_of head.scheme).sector_bytes; idle = idle } → head ≡ on → plan_of drawn ≡ plan_for on kind idle
+drawn_plan drawn {plan} {head} {on} {kind} {idle} drawn_is plan_is head_is =
+    drawn_is ∙ ap (λ (p : Plan). let plan : DrawPlan = record { kind = p.kind; sectors = p.sectors; sector_bytes = p.sector_bytes; idle = p.idle } in plan) plan_is
+    ∙ ap (λ (h : ImageHead). plan_for h kind idle) head_is
+
+-- and are as few as a count of 64 bits has
+pub few_drawn : {from : LinesFrom} {kind : Kind} {seed count idle left : ℕ} → from ≡ FromDrawn kind seed count idle → left ≡ count → IsDrawnWithin from → left < 2 ^ 64
+few_drawn {from} {kind} {seed} {count} {idle} {left} is left_is within =
+    let drawn : IsDrawnWithin (FromDrawn kind seed count idle) = subst IsDrawnWithin is within in
+    subst (λ (n : ℕ). n < 2 ^ 64) (sym left_is) drawn.1
 
 pub order_halts : (from : LinesFrom) → from ≡ FromStream → (telling : Telling) (stage : Stage) (input : Input) (out : Output) (halt : Halt) → HaltsInput telling stage input out halt
     → HaltsOf from telling stage input out halt

@@ -17,9 +17,9 @@ use Rattle.lab_tables.specs.Answered.{answered_more}
 use Rattle.rssd_lab.specs.declared.telling.Telling.{Telling}
 use Rattle.rssd_lab.specs.declared.status.Stop.TheVariants.{Lines, NotPlayed, Sink}
 use Rattle.rssd_lab.specs.Chain.{Chain}
-use Rattle.rssd_lab.specs.Runs.{Answered, At, PlaysLines, StopsAtSink, state_at}
+use Rattle.rssd_lab.specs.Runs.{Answered, At, PlaysAll, PlaysLines, StopsAtSink, state_at}
 use Rattle.rssd_lab.specs.Started.{RunsFrom, StopsFrom}
-use Rattle.rssd_lab.specs.Listed.{NextOf, PlaysList, StopsList}
+use Rattle.rssd_lab.specs.Listed.{NextOf, NoneOf, PlaysList, StopsList}
 
 -- the lines that were answered, and more behind them
 abbrev lines_and : List Answered → List Line → List Line
@@ -67,6 +67,20 @@ module _ {L : Type 0} (gives : L → Line → L → Type 0) (d : Numbers) (telli
   one_more : (old new : L) (line : Line) → gives old line new → AllGiven gives old (line ∷ []) new
   unfolding AllGiven
   one_more old new line given = (new, given, refl)
+
+  -- the lines that were answered came, and no other
+  came_all : (old new : At L) (answered : List Answered) → PlaysLines gives d telling old answered new → AllGiven gives old.lines (lines_and answered []) new.lines
+  came_all old new answered plays = came old new answered [] new.lines plays (none_more new.lines)
+
+  -- and then one that was not answered
+  came_one : (old last : At L) (answered : List Answered) (line : Line) (new : L) → PlaysLines gives d telling old answered last → gives last.lines line new
+      → AllGiven gives old.lines (lines_and answered (line ∷ [])) new
+  came_one old last answered line new plays given = came old last answered (line ∷ []) new plays (one_more last.lines new line given)
+
+  -- all lines of the list were answered
+  listed_all : (old new : At L) (answered : List Answered) → PlaysLines gives d telling old answered new
+      → PlaysAll NextOf NoneOf d telling (state_at (lines_and answered []) old.device old.score old.log) (state_at [] new.device new.score new.log)
+  listed_all old new answered plays = record { answered = answered; last = []; plays = listed old new answered [] plays; ends = inl (refl, refl) }
 
   counted : (old new : At L) (answered : List Answered) → old.score.answers.lines ≤ 2 ^ 64 - 1 → PlaysLines gives d telling old answered new
       → new.score.answers.lines ≡ min (old.score.answers.lines + length answered) (2 ^ 64 - 1)
@@ -121,12 +135,10 @@ module _ {L : Type 0} (gives : L → Line → L → Type 0) (ended : L → L →
       let device : DeviceValue = run.0 in
       let runs = run.2 in
       let plays = runs.plays in
-      let last : At L = record runs.last { lines = plays.last } in
-      let start : At L = state_at lines device runs.score _ in
       record {
         listed = lines_and plays.answered [];
         last = plays.last;
-        given = came gives device.numbers telling start last plays.answered [] plays.last plays.plays (none_more gives device.numbers telling plays.last);
+        given = came_all gives device.numbers telling _ _ plays.answered plays.plays;
         ends = elim plays.ends [
           | inl none ↦ inl (subst (λ (l : L). ended plays.last l) runs.lines_last none)
           | inr many ↦ inr (length_lines plays.answered ∙ many.0, sym runs.lines_last ∙ many.1)
@@ -138,7 +150,7 @@ module _ {L : Type 0} (gives : L → Line → L → Type 0) (ended : L → L →
             score = runs.score;
             first = runs.first;
             last = state_at [] runs.last.device runs.last.score runs.last.log;
-            plays = record { answered = plays.answered; last = []; plays = listed gives device.numbers telling start last plays.answered [] plays.plays; ends = inl (refl, refl) };
+            plays = listed_all gives device.numbers telling _ _ plays.answered plays.plays;
             lines_last = refl;
             tells = runs.tells;
           },
@@ -151,12 +163,10 @@ module _ {L : Type 0} (gives : L → Line → L → Type 0) (ended : L → L →
       let device : DeviceValue = run.0 in
       let runs = run.2 in
       let plays = runs.plays in
-      let last : At L = record runs.last { lines = plays.last } in
-      let start : At L = state_at lines device runs.score _ in
       record {
         listed = lines_and plays.answered [];
         last = plays.last;
-        given = came gives device.numbers telling start last plays.answered [] plays.last plays.plays (none_more gives device.numbers telling plays.last);
+        given = came_all gives device.numbers telling _ _ plays.answered plays.plays;
         after = subst (λ (l : L). stops plays.last why l) runs.lines_last plays.after;
         plays = (
           device,
@@ -165,7 +175,7 @@ module _ {L : Type 0} (gives : L → Line → L → Type 0) (ended : L → L →
             score = runs.score;
             first = runs.first;
             last = state_at [] runs.last.device runs.last.score runs.last.log;
-            plays = record { answered = plays.answered; last = []; plays = listed gives device.numbers telling start last plays.answered [] plays.plays; after = (refl, refl) };
+            plays = record { answered = plays.answered; last = []; plays = listed gives device.numbers telling _ _ plays.answered [] plays.plays; after = (refl, refl) };
             lines_last = refl;
             log_last = runs.log_last;
           },
@@ -188,8 +198,7 @@ module _ {L : Type 0} (gives : L → Line → L → Type 0) (ended : L → L →
         other = other;
         given = subst (λ (l : L). AllGiven gives lines (lines_and plays.answered [] ++ other ∷ []) l) runs.lines_last
             (subst (λ (all : List Line). AllGiven gives lines all runs.last.lines) behind
-            (came gives device.numbers telling start last plays.answered (other ∷ []) runs.last.lines plays.plays
-            (one_more gives device.numbers telling plays.last runs.last.lines other plays.after.1)));
+            (came_one gives device.numbers telling _ _ plays.answered other _ plays.plays plays.after.1));
         unplayed = plays.after.2;
         number_is = omega (arith, runs.plays.1, many, ap (λ (a : Answers). a.lines) runs.first.answers, length_lines plays.answered);
         plays = subst (λ (all : List Line). StopsList telling Start (NotPlayed number) all log log_after) behind (
@@ -229,8 +238,7 @@ module _ {L : Type 0} (gives : L → Line → L → Type 0) (ended : L → L →
         listed = lines_and told.answered (told.line ∷ []);
         last = lines_after;
         given = subst (λ (l : L). AllGiven gives lines (lines_and told.answered (told.line ∷ [])) l) line.lines_last
-            (came gives device.numbers telling start told.last told.answered (told.line ∷ []) line.last.lines told.plays
-            (one_more gives device.numbers telling told.last.lines line.last.lines told.line told.given));
+            (came_one gives device.numbers telling _ _ told.answered told.line _ told.plays told.given);
         ends = inl refl;
         plays = (
           device,
@@ -256,12 +264,10 @@ module _ {L : Type 0} (gives : L → Line → L → Type 0) (ended : L → L →
       }
   untold device blank (inr (inr end)) =
       let plays = end.plays in
-      let last : At L = record end.last { lines = plays.last } in
-      let start : At L = state_at lines device end.score _ in
       record {
         listed = lines_and plays.answered [];
         last = plays.last;
-        given = came gives device.numbers telling start last plays.answered [] plays.last plays.plays (none_more gives device.numbers telling plays.last);
+        given = came_all gives device.numbers telling _ _ plays.answered plays.plays;
         ends = elim plays.ends [
           | inl none ↦ inr (subst (λ (l : L). ended plays.last l) end.lines_last none)
           | inr many ↦ inl (sym end.lines_last ∙ many.1)
@@ -273,7 +279,7 @@ module _ {L : Type 0} (gives : L → Line → L → Type 0) (ended : L → L →
             score = end.score;
             first = end.first;
             last = state_at [] end.last.device end.last.score end.last.log;
-            plays = record { answered = plays.answered; last = []; plays = listed gives device.numbers telling start last plays.answered [] plays.plays; ends = inl (refl, refl) };
+            plays = listed_all gives device.numbers telling _ _ plays.answered plays.plays;
             lines_last = refl;
             failed = end.failed;
           })),
