@@ -7,7 +7,7 @@ use Rattle.rssd_io.specs.Event.{Event, HasFailed}
 use Rattle.rssd_script.specs.declared.lines.Line.{Line}
 use Rattle.rssd_script.specs.declared.lines.Line.TheVariants.{Write, Read, Trim, Idle}
 use Rattle.rssd_run.specs.Played.{IsPlayed}
-use Rattle.rssd_run.specs.Statuses.{Input, Output, IsUntouched, input, output}
+use Rattle.rssd_run.specs.Statuses.{Input, Output, IsUntouched, bad_line, input, output}
 use Rattle.die_image.specs.Schemes.{row_of}
 use Rattle.die_image.specs.declared.head.ImageHead.{ImageHead}
 use Rattle.lab_lines.specs.declared.drawn.Drawn.{Drawn}
@@ -37,10 +37,10 @@ use Rattle.rssd_lab.specs.declared.pace.Paced.{Paced}
 use Rattle.rssd_lab.specs.Pacing.{inner_of}
 use Rattle.rssd_lab.specs.Stages.{StartOn, head_on}
 use Rattle.rssd_lab.specs.Started.{RunsFrom, StopsFrom}
-use Rattle.rssd_lab.specs.Top.{GivesLine, SaysStopped, bad_line}
+use Rattle.rssd_lab.specs.Top.{GivesLine, SaysStopped}
 use Rattle.rssd_lab.specs.Listed.{RunHalts, PlaysList, StopsList}
 use Rattle.rssd_lab.specs.Ends.{StopsInput, StopsDrawn, PlaysInput, PlaysDrawn, HaltsInput, HaltsDrawn, HaltsOf, StopsOf, plan_for, IsOutside, IsUnplayed, IsCutOff, IsShortOfMemory}
-use Rattle.rssd_lab.specs.Ends.{IsShortOfDrawn, IsUntold, IsUntoldDrawn}
+use Rattle.rssd_lab.specs.Ends.{IsShortOfDrawn, IsUntold, IsUntoldDrawn, PlaysAllOf}
 use Rattle.rssd_lab.proofs.Stopped.{sink_failed}
 use Rattle.rssd_lab.proofs.Listed.{AllListed, ListedUpTo, ListedUnplayed, ListedUntold, all_listed, listed_up_to, listed_unplayed, listed_untold}
 
@@ -326,33 +326,54 @@ drawn_halts telling stage old new seed start few out out_after (Ended status) st
 
 -- ---- an order
 
--- lines that are drawn for an order are drawn for the device of its head
-pub drawn_plan : (drawn : Drawn) {plan : Plan} {head on : ImageHead} {kind : Kind} {idle : ℕ}
-    → plan_of drawn ≡ record { kind = plan.kind; sectors = plan.sectors; sector_bytes = plan.sector_bytes; idle = plan.idle }
-    → plan ≡ record { kind = kind; sectors = head.sectors; sector_bytes = (row_of head.scheme).sector_bytes; idle = idle } → head ≡ on → plan_of drawn ≡ plan_for on kind idle
-drawn_plan drawn {plan} {head} {on} {kind} {idle} drawn_is plan_is head_is =
-    drawn_is ∙ ap (λ (p : Plan). let plan : DrawPlan = record { kind = p.kind; sectors = p.sectors; sector_bytes = p.sector_bytes; idle = p.idle } in plan) plan_is
-    ∙ ap (λ (h : ImageHead). plan_for h kind idle) head_is
-
--- and are as few as a count of 64 bits has
-pub few_drawn : {from : LinesFrom} {kind : Kind} {seed count idle left : ℕ} → from ≡ FromDrawn kind seed count idle → left ≡ count → IsDrawnWithin from → left < 2 ^ 64
-few_drawn {from} {kind} {seed} {count} {idle} {left} is left_is within =
-    let drawn : IsDrawnWithin (FromDrawn kind seed count idle) = subst IsDrawnWithin is within in
-    subst (λ (n : ℕ). n < 2 ^ 64) (sym left_is) drawn.1
-
 pub order_halts : (from : LinesFrom) → from ≡ FromStream → (telling : Telling) (stage : Stage) (input : Input) (out : Output) (halt : Halt) → HaltsInput telling stage input out halt
     → HaltsOf from telling stage input out halt
 order_halts from is telling stage input out NoSpare full = full
 order_halts from is telling stage input out (Ended status) stops =
     subst (λ (f : LinesFrom). StopsOf f telling (head_on stage) (StartOn stage) input out status) (sym is) stops
 
-pub drawn_order_halts : (from : LinesFrom) (kind : Kind) (seed count idle : ℕ) → from ≡ FromDrawn kind seed count idle → (telling : Telling) (stage : Stage) (input : Input) (out : Output)
-    → IsUntouched input → (plan : DrawPlan) → plan ≡ plan_for (head_on stage) kind idle → (left : ℕ) → left ≡ count → (halt : Halt) → HaltsDrawn telling stage plan seed left out halt
-    → HaltsOf from telling stage input out halt
-drawn_order_halts from kind seed count idle is telling stage input out unread plan of_head left left_is NoSpare full = (full.0, unread, full.1)
-drawn_order_halts from kind seed count idle is telling stage input out unread plan of_head left left_is (Ended status) stops =
-    subst (λ (f : LinesFrom). StopsOf f telling (head_on stage) (StartOn stage) input out status) (sym is) (
-      subst (λ (p : DrawPlan). StopsDrawn telling (StartOn stage) p seed count out status) of_head
-          (subst (λ (n : ℕ). StopsDrawn telling (StartOn stage) plan seed n out status) left_is stops),
-      unread,
-    )
+-- lines that are drawn for an order are drawn for the device of its head
+drawn_plan : (drawn : Drawn) {plan : Plan} {head on : ImageHead} {kind : Kind} {idle : ℕ}
+    → plan_of drawn ≡ record { kind = plan.kind; sectors = plan.sectors; sector_bytes = plan.sector_bytes; idle = plan.idle }
+    → plan ≡ record { kind = kind; sectors = head.sectors; sector_bytes = (row_of head.scheme).sector_bytes; idle = idle } → head ≡ on → plan_of drawn ≡ plan_for on kind idle
+drawn_plan drawn {plan} {head} {on} {kind} {idle} drawn_is plan_is head_is =
+    drawn_is ∙ ap (λ (p : Plan). let plan : DrawPlan = record { kind = p.kind; sectors = p.sectors; sector_bytes = p.sector_bytes; idle = p.idle } in plan) plan_is
+    ∙ ap (λ (h : ImageHead). plan_for h kind idle) head_is
+
+-- what is drawn for an order on a die of this head
+pub record IsDrawnFor (from : LinesFrom) (head : ImageHead) (drawn : Drawn) : Type 0 where
+  pub kind : Kind
+  pub seed : ℕ
+  pub idle : ℕ
+  pub is : from ≡ FromDrawn kind seed (left_of drawn) idle
+  pub plan : plan_of drawn ≡ plan_for head kind idle
+  pub state : state_of drawn ≡ record { words = seed; turn = 0 }
+  pub few : left_of drawn < 2 ^ 64
+
+pub drawn_for : {from : LinesFrom} (drawn : Drawn) {plan : Plan} {head on : ImageHead} {kind : Kind} {seed count idle : ℕ} → from ≡ FromDrawn kind seed count idle → IsDrawnWithin from
+    → plan_of drawn ≡ record { kind = plan.kind; sectors = plan.sectors; sector_bytes = plan.sector_bytes; idle = plan.idle } → state_of drawn ≡ record { words = seed; turn = 0 }
+    → left_of drawn ≡ count → plan ≡ record { kind = kind; sectors = head.sectors; sector_bytes = (row_of head.scheme).sector_bytes; idle = idle } → head ≡ on → IsDrawnFor from on drawn
+drawn_for {from} drawn {plan} {head} {on} {kind} {seed} {count} {idle} is within drawn_is state left plan_is head_is =
+    let drawn_within : IsDrawnWithin (FromDrawn kind seed count idle) = subst IsDrawnWithin is within in
+    record {
+      kind = kind;
+      seed = seed;
+      idle = idle;
+      is = is ∙ ap (λ (n : ℕ). FromDrawn kind seed n idle) (sym left);
+      plan = drawn_plan drawn drawn_is plan_is head_is;
+      state = state;
+      few = subst (λ (n : ℕ). n < 2 ^ 64) (sym left) drawn_within.1;
+    }
+
+pub drawn_order_plays : {from : LinesFrom} (stage : Stage) {drawn : Drawn} (d : IsDrawnFor from (head_on stage) drawn) (telling : Telling) (End : DieState → Type 0) (read : Input) (out : Output)
+    → IsUntouched read → PlaysDrawn telling (StartOn stage) End (plan_of drawn) d.seed (left_of drawn) out → PlaysAllOf from telling (head_on stage) (StartOn stage) End read out
+drawn_order_plays {from} stage {drawn} d telling End read out unread plays =
+    subst (λ (f : LinesFrom). PlaysAllOf f telling (head_on stage) (StartOn stage) End read out) (sym d.is)
+    (subst (λ (p : DrawPlan). PlaysDrawn telling (StartOn stage) End p d.seed (left_of drawn) out) d.plan plays, unread)
+
+pub drawn_order_halts : {from : LinesFrom} (stage : Stage) {drawn : Drawn} (d : IsDrawnFor from (head_on stage) drawn) (telling : Telling) (read : Input) (out : Output)
+    → IsUntouched read → (halt : Halt) → HaltsDrawn telling stage (plan_of drawn) d.seed (left_of drawn) out halt → HaltsOf from telling stage read out halt
+drawn_order_halts stage d telling read out unread NoSpare full = (full.0, unread, full.1)
+drawn_order_halts {from} stage {drawn} d telling read out unread (Ended status) stops =
+    subst (λ (f : LinesFrom). StopsOf f telling (head_on stage) (StartOn stage) read out status) (sym d.is)
+    (subst (λ (p : DrawPlan). StopsDrawn telling (StartOn stage) p d.seed (left_of drawn) out status) d.plan stops, unread)

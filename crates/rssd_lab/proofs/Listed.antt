@@ -15,11 +15,12 @@ use Rattle.lab_lines.specs.Given.{AllGiven}
 use Rattle.lab_tables.specs.declared.answers.Answers.{Answers}
 use Rattle.lab_tables.specs.Answered.{answered_more}
 use Rattle.rssd_lab.specs.declared.telling.Telling.{Telling}
+use Rattle.rssd_lab.specs.declared.status.Stop.{Stop}
 use Rattle.rssd_lab.specs.declared.status.Stop.TheVariants.{Lines, NotPlayed, Sink}
 use Rattle.rssd_lab.specs.Chain.{Chain}
-use Rattle.rssd_lab.specs.Runs.{Answered, At, PlaysAll, PlaysLines, StopsAtSink, state_at}
+use Rattle.rssd_lab.specs.Runs.{Answered, At, PlaysAll, PlaysLines, RunsUpTo, StopsAtSink, StopsLines, handed, run_head, state_at}
 use Rattle.rssd_lab.specs.Started.{RunsFrom, StopsFrom}
-use Rattle.rssd_lab.specs.Listed.{NextOf, NoneOf, PlaysList, StopsList}
+use Rattle.rssd_lab.specs.Listed.{NextOf, NoneOf, StopsBehind, PlaysList, StopsList}
 
 -- the lines that were answered, and more behind them
 abbrev lines_and : List Answered → List Line → List Line
@@ -128,6 +129,20 @@ pub record ListedUntold {L : Type 0} (gives : L → Line → L → Type 0) (ende
   pub ends : (lines_after ≡ last) ⊎ ended last lines_after
   pub plays : StopsList telling Start Sink listed log log_after
 
+-- a run that stopped, as one of a list
+up_to_listed : {L : Type 0} (gives : L → Line → L → Type 0) (stops : L → LinesEnd → L → Type 0) (telling : Telling) (device : DeviceValue) (why : Stop) (lines lines_after : L)
+    (log log_after : List Event) (runs : RunsUpTo gives stops telling device why lines lines_after log log_after) (list : List Line)
+    → StopsLines NextOf StopsBehind device.numbers telling (state_at list device runs.score (log ++ handed (run_head ∷ []))) why (state_at [] runs.last.device runs.last.score runs.last.log)
+    → RunsUpTo NextOf StopsBehind telling device why list [] log log_after
+up_to_listed gives stops telling device why lines lines_after log log_after runs list plays = record {
+  score = runs.score;
+  first = runs.first;
+  last = state_at [] runs.last.device runs.last.score runs.last.log;
+  plays = plays;
+  lines_last = refl;
+  log_last = runs.log_last;
+}
+
 module _ {L : Type 0} (gives : L → Line → L → Type 0) (ended : L → L → Type 0) (stops : L → LinesEnd → L → Type 0) (telling : Telling)
     (Start : DeviceValue → Type 0) (lines lines_after : L) (log log_after : List Event) where
   pub all_listed : (End : DieState → Type 0) → RunsFrom gives ended telling Start End lines lines_after log log_after → AllListed gives ended telling Start End lines lines_after log log_after
@@ -171,14 +186,8 @@ module _ {L : Type 0} (gives : L → Line → L → Type 0) (ended : L → L →
         plays = (
           device,
           run.1,
-          record {
-            score = runs.score;
-            first = runs.first;
-            last = state_at [] runs.last.device runs.last.score runs.last.log;
-            plays = record { answered = plays.answered; last = []; plays = listed gives device.numbers telling _ _ plays.answered [] plays.plays; after = (refl, refl) };
-            lines_last = refl;
-            log_last = runs.log_last;
-          },
+          up_to_listed gives stops telling device (Lines why) lines lines_after log log_after runs (lines_and plays.answered [])
+              (record { answered = plays.answered; last = []; plays = listed gives device.numbers telling _ _ plays.answered [] plays.plays; after = (refl, refl) }),
         );
       }
 
@@ -204,22 +213,15 @@ module _ {L : Type 0} (gives : L → Line → L → Type 0) (ended : L → L →
         plays = subst (λ (all : List Line). StopsList telling Start (NotPlayed number) all log log_after) behind (
           device,
           run.1,
-          record {
-            score = runs.score;
-            first = runs.first;
-            last = state_at [] runs.last.device runs.last.score runs.last.log;
-            plays = (
-              record {
-                answered = plays.answered;
-                last = other ∷ [];
-                plays = listed gives device.numbers telling start last plays.answered (other ∷ []) plays.plays;
-                after = (other, refl, plays.after.2);
-              },
-              runs.plays.1,
-            );
-            lines_last = refl;
-            log_last = runs.log_last;
-          },
+          up_to_listed gives stops telling device (NotPlayed number) lines lines_after log log_after runs (lines_and plays.answered (other ∷ [])) (
+            record {
+              answered = plays.answered;
+              last = other ∷ [];
+              plays = listed gives device.numbers telling start last plays.answered (other ∷ []) plays.plays;
+              after = (other, refl, plays.after.2);
+            },
+            runs.plays.1,
+          ),
         );
       }
 
@@ -243,23 +245,16 @@ module _ {L : Type 0} (gives : L → Line → L → Type 0) (ended : L → L →
         plays = (
           device,
           blank,
-          inr (inl (record {
-            score = line.score;
-            first = line.first;
-            last = state_at [] line.last.device line.last.score line.last.log;
-            plays = record {
-              answered = told.answered;
-              last = state_at (told.line ∷ []) told.last.device told.last.score told.last.log;
-              plays = listed gives device.numbers telling start told.last told.answered (told.line ∷ []) told.plays;
-              line = told.line;
-              reply = told.reply;
-              given = refl;
-              played = told.played;
-              failed = told.failed;
-            };
-            lines_last = refl;
-            log_last = line.log_last;
-          })),
+          inr (inl (up_to_listed gives stops telling device Sink lines lines_after log log_after line (lines_and told.answered (told.line ∷ [])) (record {
+            answered = told.answered;
+            last = state_at (told.line ∷ []) told.last.device told.last.score told.last.log;
+            plays = listed gives device.numbers telling start told.last told.answered (told.line ∷ []) told.plays;
+            line = told.line;
+            reply = told.reply;
+            given = refl;
+            played = told.played;
+            failed = told.failed;
+          }))),
         );
       }
   untold device blank (inr (inr end)) =
