@@ -18,7 +18,7 @@ use Rattle.rssd_run.specs.Played.{IsPlayed}
 use Rattle.rssd_run.specs.Statuses.{Input, Output, takes, taken, ReadFailed, WriteFailed}
 use Rattle.rssd_run.specs.Top.{IsNoImage, IsFullImage}
 use Rattle.rssd_run.proofs.CallStops.{stopped}
-use Rattle.lab_tables.proofs.Failing.{failed_later}
+use Rattle.lab_stream.proofs.Takes.{failed_later}
 use Rattle.lab_words.specs.declared.asked.Asked.{Asked}
 use Rattle.lab_words.specs.declared.asked.AskedDie.{AskedDie}
 use Rattle.lab_words.specs.declared.asked.DieFrom.{DieFrom}

@@ -7,8 +7,11 @@ use Rattle.rssd_io.specs.Event.{Event, HasFailed}
 use Rattle.rssd_script.specs.declared.lines.Line.{Line}
 use Rattle.rssd_script.specs.declared.lines.Line.TheVariants.{Write, Read, Trim, Idle}
 use Rattle.rssd_run.specs.Played.{IsPlayed}
-use Rattle.rssd_run.specs.Statuses.{Input, Output, IsUntouched, input, output}
+use Rattle.rssd_run.specs.Statuses.{Input, Output, IsUntouched, bad_line, input, output}
+use Rattle.die_image.specs.Schemes.{row_of}
+use Rattle.die_image.specs.declared.head.ImageHead.{ImageHead}
 use Rattle.lab_lines.specs.declared.drawn.Drawn.{Drawn}
+use Rattle.lab_lines.specs.declared.drawn.Plan.{Plan}
 use Rattle.lab_lines.specs.declared.lines.LinesEnd.{LinesEnd}
 use Rattle.lab_lines.specs.declared.lines.LinesEnd.TheVariants as ends
 use Rattle.lab_lines.specs.Given.{AllGiven}
@@ -16,12 +19,13 @@ use Rattle.lab_lines.specs.Workload.{DrawPlan, DrawState, drawn_line, drawn_from
 use Rattle.lab_lines.specs.Drawing.{plan_of, state_of, left_of, DrawsLine, DrawsNone}
 use Rattle.lab_lines.proofs.FirstLines.{first_lines}
 use Rattle.lab_stream.specs.declared.stream.Stream.{Stream}
-use Rattle.lab_stream.specs.Streaming.{ahead_of, lines_of, TakesLine, TakesNone, StopsStream}
+use Rattle.lab_stream.specs.Streaming.{ahead_of, lines_of, source_of, TakesLine, TakesNone, StopsStream}
 use Rattle.lab_stream.specs.Spelled.{Streamed}
 use Rattle.lab_stream.proofs.Spelled.{streamed, streamed_text, streamed_bad, counted}
 use Rattle.lab_lines.specs.declared.kind.Kind.{Kind}
 use Rattle.lab_words.specs.declared.asked.LinesFrom.{LinesFrom}
 use Rattle.lab_words.specs.declared.asked.LinesFrom.TheVariants.{Stream as FromStream, Drawn as FromDrawn}
+use Rattle.lab_words.specs.Orders.{IsDrawnWithin}
 use Rattle.rssd_lab.specs.declared.telling.Telling.{Telling}
 use Rattle.rssd_lab.specs.declared.stage.Stage.{Stage}
 use Rattle.rssd_lab.specs.declared.status.Halt.{Halt}
@@ -33,10 +37,10 @@ use Rattle.rssd_lab.specs.declared.pace.Paced.{Paced}
 use Rattle.rssd_lab.specs.Pacing.{inner_of}
 use Rattle.rssd_lab.specs.Stages.{StartOn, head_on}
 use Rattle.rssd_lab.specs.Started.{RunsFrom, StopsFrom}
-use Rattle.rssd_lab.specs.Top.{GivesLine, SaysStopped, bad_line}
+use Rattle.rssd_lab.specs.Top.{GivesLine, SaysStopped}
 use Rattle.rssd_lab.specs.Listed.{RunHalts, PlaysList, StopsList}
 use Rattle.rssd_lab.specs.Ends.{StopsInput, StopsDrawn, PlaysInput, PlaysDrawn, HaltsInput, HaltsDrawn, HaltsOf, StopsOf, plan_for, IsOutside, IsUnplayed, IsCutOff, IsShortOfMemory}
-use Rattle.rssd_lab.specs.Ends.{IsShortOfDrawn, IsUntold, IsUntoldDrawn}
+use Rattle.rssd_lab.specs.Ends.{IsShortOfDrawn, IsUntold, IsUntoldDrawn, PlaysAllOf}
 use Rattle.rssd_lab.proofs.Stopped.{sink_failed}
 use Rattle.rssd_lab.proofs.Listed.{AllListed, ListedUpTo, ListedUnplayed, ListedUntold, all_listed, listed_up_to, listed_unplayed, listed_untold}
 
@@ -66,6 +70,12 @@ abbrev Stops : {S P : Type 0} → (S → List Event) → Paced (Stream S) P → 
 Stops log old why new = StopsStream log (inner_of old) why (inner_of new)
 
 -- ---- the lines of the input
+
+-- what holds of the source of the lines at first and at last, holds of the input and of what comes back
+pub of_input : {S P : Type 0} (Holds : S → S → Type 0) (old new : Paced (Stream S) P) {first last : Stream S} {from back : S}
+    → inner_of old ≡ first → source_of first ≡ from → back ≡ source_of last → last ≡ inner_of new → Holds (source_of (inner_of old)) (source_of (inner_of new)) → Holds from back
+of_input {S} Holds old new {first} {last} {from} {back} begins of_first of_last ends holds =
+    subst (λ (s : S). Holds s back) (ap source_of begins ∙ of_first) (subst (λ (s : S). Holds (source_of (inner_of old)) s) (sym (of_last ∙ ap source_of ends)) holds)
 
 module _ {S P : Type 0} (log : S → List Event) (telling : Telling) (Start : DeviceValue → Type 0) (old new : Paced (Stream S) P)
     (none_ahead : ahead_of (inner_of old) ≡ []) (none_counted : lines_of (inner_of old) ≡ 0) (out : List Event) where
@@ -322,13 +332,48 @@ order_halts from is telling stage input out NoSpare full = full
 order_halts from is telling stage input out (Ended status) stops =
     subst (λ (f : LinesFrom). StopsOf f telling (head_on stage) (StartOn stage) input out status) (sym is) stops
 
-pub drawn_order_halts : (from : LinesFrom) (kind : Kind) (seed count idle : ℕ) → from ≡ FromDrawn kind seed count idle → (telling : Telling) (stage : Stage) (input : Input) (out : Output)
-    → IsUntouched input → (plan : DrawPlan) → plan ≡ plan_for (head_on stage) kind idle → (left : ℕ) → left ≡ count → (halt : Halt) → HaltsDrawn telling stage plan seed left out halt
-    → HaltsOf from telling stage input out halt
-drawn_order_halts from kind seed count idle is telling stage input out unread plan of_head left left_is NoSpare full = (full.0, unread, full.1)
-drawn_order_halts from kind seed count idle is telling stage input out unread plan of_head left left_is (Ended status) stops =
-    subst (λ (f : LinesFrom). StopsOf f telling (head_on stage) (StartOn stage) input out status) (sym is) (
-      subst (λ (p : DrawPlan). StopsDrawn telling (StartOn stage) p seed count out status) of_head
-          (subst (λ (n : ℕ). StopsDrawn telling (StartOn stage) plan seed n out status) left_is stops),
-      unread,
-    )
+-- lines that are drawn for an order are drawn for the device of its head
+drawn_plan : (drawn : Drawn) {plan : Plan} {head on : ImageHead} {kind : Kind} {idle : ℕ}
+    → plan_of drawn ≡ record { kind = plan.kind; sectors = plan.sectors; sector_bytes = plan.sector_bytes; idle = plan.idle }
+    → plan ≡ record { kind = kind; sectors = head.sectors; sector_bytes = (row_of head.scheme).sector_bytes; idle = idle } → head ≡ on → plan_of drawn ≡ plan_for on kind idle
+drawn_plan drawn {plan} {head} {on} {kind} {idle} drawn_is plan_is head_is =
+    drawn_is ∙ ap (λ (p : Plan). let plan : DrawPlan = record { kind = p.kind; sectors = p.sectors; sector_bytes = p.sector_bytes; idle = p.idle } in plan) plan_is
+    ∙ ap (λ (h : ImageHead). plan_for h kind idle) head_is
+
+-- what is drawn for an order on a die of this head
+pub record IsDrawnFor (from : LinesFrom) (head : ImageHead) (drawn : Drawn) : Type 0 where
+  pub kind : Kind
+  pub seed : ℕ
+  pub idle : ℕ
+  pub is : from ≡ FromDrawn kind seed (left_of drawn) idle
+  pub plan : plan_of drawn ≡ plan_for head kind idle
+  pub state : state_of drawn ≡ record { words = seed; turn = 0 }
+  pub few : left_of drawn < 2 ^ 64
+
+pub drawn_for : {from : LinesFrom} (drawn : Drawn) {plan : Plan} {head on : ImageHead} {kind : Kind} {seed count idle : ℕ} → from ≡ FromDrawn kind seed count idle → IsDrawnWithin from
+    → plan_of drawn ≡ record { kind = plan.kind; sectors = plan.sectors; sector_bytes = plan.sector_bytes; idle = plan.idle } → state_of drawn ≡ record { words = seed; turn = 0 }
+    → left_of drawn ≡ count → plan ≡ record { kind = kind; sectors = head.sectors; sector_bytes = (row_of head.scheme).sector_bytes; idle = idle } → head ≡ on → IsDrawnFor from on drawn
+drawn_for {from} drawn {plan} {head} {on} {kind} {seed} {count} {idle} is within drawn_is state left plan_is head_is =
+    let drawn_within : IsDrawnWithin (FromDrawn kind seed count idle) = subst IsDrawnWithin is within in
+    record {
+      kind = kind;
+      seed = seed;
+      idle = idle;
+      is = is ∙ ap (λ (n : ℕ). FromDrawn kind seed n idle) (sym left);
+      plan = drawn_plan drawn drawn_is plan_is head_is;
+      state = state;
+      few = subst (λ (n : ℕ). n < 2 ^ 64) (sym left) drawn_within.1;
+    }
+
+pub drawn_order_plays : {from : LinesFrom} (stage : Stage) {drawn : Drawn} (d : IsDrawnFor from (head_on stage) drawn) (telling : Telling) (End : DieState → Type 0) (read : Input) (out : Output)
+    → IsUntouched read → PlaysDrawn telling (StartOn stage) End (plan_of drawn) d.seed (left_of drawn) out → PlaysAllOf from telling (head_on stage) (StartOn stage) End read out
+drawn_order_plays {from} stage {drawn} d telling End read out unread plays =
+    subst (λ (f : LinesFrom). PlaysAllOf f telling (head_on stage) (StartOn stage) End read out) (sym d.is)
+    (subst (λ (p : DrawPlan). PlaysDrawn telling (StartOn stage) End p d.seed (left_of drawn) out) d.plan plays, unread)
+
+pub drawn_order_halts : {from : LinesFrom} (stage : Stage) {drawn : Drawn} (d : IsDrawnFor from (head_on stage) drawn) (telling : Telling) (read : Input) (out : Output)
+    → IsUntouched read → (halt : Halt) → HaltsDrawn telling stage (plan_of drawn) d.seed (left_of drawn) out halt → HaltsOf from telling stage read out halt
+drawn_order_halts stage d telling read out unread NoSpare full = (full.0, unread, full.1)
+drawn_order_halts {from} stage {drawn} d telling read out unread (Ended status) stops =
+    subst (λ (f : LinesFrom). StopsOf f telling (head_on stage) (StartOn stage) read out status) (sym d.is)
+    (subst (λ (p : DrawPlan). StopsDrawn telling (StartOn stage) p d.seed (left_of drawn) out status) d.plan stops, unread)

@@ -15,11 +15,12 @@ use Rattle.lab_lines.specs.Given.{AllGiven}
 use Rattle.lab_tables.specs.declared.answers.Answers.{Answers}
 use Rattle.lab_tables.specs.Answered.{answered_more}
 use Rattle.rssd_lab.specs.declared.telling.Telling.{Telling}
+use Rattle.rssd_lab.specs.declared.status.Stop.{Stop}
 use Rattle.rssd_lab.specs.declared.status.Stop.TheVariants.{Lines, NotPlayed, Sink}
 use Rattle.rssd_lab.specs.Chain.{Chain}
-use Rattle.rssd_lab.specs.Runs.{Answered, At, PlaysLines, StopsAtSink, state_at}
+use Rattle.rssd_lab.specs.Runs.{Answered, At, PlaysAll, PlaysLines, RunsUpTo, StopsAtSink, StopsLines, handed, run_head, state_at}
 use Rattle.rssd_lab.specs.Started.{RunsFrom, StopsFrom}
-use Rattle.rssd_lab.specs.Listed.{NextOf, PlaysList, StopsList}
+use Rattle.rssd_lab.specs.Listed.{NextOf, NoneOf, StopsBehind, PlaysList, StopsList}
 
 -- the lines that were answered, and more behind them
 abbrev lines_and : List Answered → List Line → List Line
@@ -68,6 +69,20 @@ module _ {L : Type 0} (gives : L → Line → L → Type 0) (d : Numbers) (telli
   unfolding AllGiven
   one_more old new line given = (new, given, refl)
 
+  -- the lines that were answered came, and no other
+  came_all : (old new : At L) (answered : List Answered) → PlaysLines gives d telling old answered new → AllGiven gives old.lines (lines_and answered []) new.lines
+  came_all old new answered plays = came old new answered [] new.lines plays (none_more new.lines)
+
+  -- and then one that was not answered
+  came_one : (old last : At L) (answered : List Answered) (line : Line) (new : L) → PlaysLines gives d telling old answered last → gives last.lines line new
+      → AllGiven gives old.lines (lines_and answered (line ∷ [])) new
+  came_one old last answered line new plays given = came old last answered (line ∷ []) new plays (one_more last.lines new line given)
+
+  -- all lines of the list were answered
+  listed_all : (old new : At L) (answered : List Answered) → PlaysLines gives d telling old answered new
+      → PlaysAll NextOf NoneOf d telling (state_at (lines_and answered []) old.device old.score old.log) (state_at [] new.device new.score new.log)
+  listed_all old new answered plays = record { answered = answered; last = []; plays = listed old new answered [] plays; ends = inl (refl, refl) }
+
   counted : (old new : At L) (answered : List Answered) → old.score.answers.lines ≤ 2 ^ 64 - 1 → PlaysLines gives d telling old answered new
       → new.score.answers.lines ≡ min (old.score.answers.lines + length answered) (2 ^ 64 - 1)
   unfolding Chain
@@ -114,6 +129,20 @@ pub record ListedUntold {L : Type 0} (gives : L → Line → L → Type 0) (ende
   pub ends : (lines_after ≡ last) ⊎ ended last lines_after
   pub plays : StopsList telling Start Sink listed log log_after
 
+-- a run that stopped, as one of a list
+up_to_listed : {L : Type 0} (gives : L → Line → L → Type 0) (stops : L → LinesEnd → L → Type 0) (telling : Telling) (device : DeviceValue) (why : Stop) (lines lines_after : L)
+    (log log_after : List Event) (runs : RunsUpTo gives stops telling device why lines lines_after log log_after) (list : List Line)
+    → StopsLines NextOf StopsBehind device.numbers telling (state_at list device runs.score (log ++ handed (run_head ∷ []))) why (state_at [] runs.last.device runs.last.score runs.last.log)
+    → RunsUpTo NextOf StopsBehind telling device why list [] log log_after
+up_to_listed gives stops telling device why lines lines_after log log_after runs list plays = record {
+  score = runs.score;
+  first = runs.first;
+  last = state_at [] runs.last.device runs.last.score runs.last.log;
+  plays = plays;
+  lines_last = refl;
+  log_last = runs.log_last;
+}
+
 module _ {L : Type 0} (gives : L → Line → L → Type 0) (ended : L → L → Type 0) (stops : L → LinesEnd → L → Type 0) (telling : Telling)
     (Start : DeviceValue → Type 0) (lines lines_after : L) (log log_after : List Event) where
   pub all_listed : (End : DieState → Type 0) → RunsFrom gives ended telling Start End lines lines_after log log_after → AllListed gives ended telling Start End lines lines_after log log_after
@@ -121,12 +150,10 @@ module _ {L : Type 0} (gives : L → Line → L → Type 0) (ended : L → L →
       let device : DeviceValue = run.0 in
       let runs = run.2 in
       let plays = runs.plays in
-      let last : At L = record runs.last { lines = plays.last } in
-      let start : At L = state_at lines device runs.score _ in
       record {
         listed = lines_and plays.answered [];
         last = plays.last;
-        given = came gives device.numbers telling start last plays.answered [] plays.last plays.plays (none_more gives device.numbers telling plays.last);
+        given = came_all gives device.numbers telling _ _ plays.answered plays.plays;
         ends = elim plays.ends [
           | inl none ↦ inl (subst (λ (l : L). ended plays.last l) runs.lines_last none)
           | inr many ↦ inr (length_lines plays.answered ∙ many.0, sym runs.lines_last ∙ many.1)
@@ -138,7 +165,7 @@ module _ {L : Type 0} (gives : L → Line → L → Type 0) (ended : L → L →
             score = runs.score;
             first = runs.first;
             last = state_at [] runs.last.device runs.last.score runs.last.log;
-            plays = record { answered = plays.answered; last = []; plays = listed gives device.numbers telling start last plays.answered [] plays.plays; ends = inl (refl, refl) };
+            plays = listed_all gives device.numbers telling _ _ plays.answered plays.plays;
             lines_last = refl;
             tells = runs.tells;
           },
@@ -151,24 +178,16 @@ module _ {L : Type 0} (gives : L → Line → L → Type 0) (ended : L → L →
       let device : DeviceValue = run.0 in
       let runs = run.2 in
       let plays = runs.plays in
-      let last : At L = record runs.last { lines = plays.last } in
-      let start : At L = state_at lines device runs.score _ in
       record {
         listed = lines_and plays.answered [];
         last = plays.last;
-        given = came gives device.numbers telling start last plays.answered [] plays.last plays.plays (none_more gives device.numbers telling plays.last);
+        given = came_all gives device.numbers telling _ _ plays.answered plays.plays;
         after = subst (λ (l : L). stops plays.last why l) runs.lines_last plays.after;
         plays = (
           device,
           run.1,
-          record {
-            score = runs.score;
-            first = runs.first;
-            last = state_at [] runs.last.device runs.last.score runs.last.log;
-            plays = record { answered = plays.answered; last = []; plays = listed gives device.numbers telling start last plays.answered [] plays.plays; after = (refl, refl) };
-            lines_last = refl;
-            log_last = runs.log_last;
-          },
+          up_to_listed gives stops telling device (Lines why) lines lines_after log log_after runs (lines_and plays.answered [])
+              (record { answered = plays.answered; last = []; plays = listed gives device.numbers telling _ _ plays.answered [] plays.plays; after = (refl, refl) }),
         );
       }
 
@@ -188,29 +207,21 @@ module _ {L : Type 0} (gives : L → Line → L → Type 0) (ended : L → L →
         other = other;
         given = subst (λ (l : L). AllGiven gives lines (lines_and plays.answered [] ++ other ∷ []) l) runs.lines_last
             (subst (λ (all : List Line). AllGiven gives lines all runs.last.lines) behind
-            (came gives device.numbers telling start last plays.answered (other ∷ []) runs.last.lines plays.plays
-            (one_more gives device.numbers telling plays.last runs.last.lines other plays.after.1)));
+            (came_one gives device.numbers telling _ _ plays.answered other _ plays.plays plays.after.1));
         unplayed = plays.after.2;
         number_is = omega (arith, runs.plays.1, many, ap (λ (a : Answers). a.lines) runs.first.answers, length_lines plays.answered);
         plays = subst (λ (all : List Line). StopsList telling Start (NotPlayed number) all log log_after) behind (
           device,
           run.1,
-          record {
-            score = runs.score;
-            first = runs.first;
-            last = state_at [] runs.last.device runs.last.score runs.last.log;
-            plays = (
-              record {
-                answered = plays.answered;
-                last = other ∷ [];
-                plays = listed gives device.numbers telling start last plays.answered (other ∷ []) plays.plays;
-                after = (other, refl, plays.after.2);
-              },
-              runs.plays.1,
-            );
-            lines_last = refl;
-            log_last = runs.log_last;
-          },
+          up_to_listed gives stops telling device (NotPlayed number) lines lines_after log log_after runs (lines_and plays.answered (other ∷ [])) (
+            record {
+              answered = plays.answered;
+              last = other ∷ [];
+              plays = listed gives device.numbers telling start last plays.answered (other ∷ []) plays.plays;
+              after = (other, refl, plays.after.2);
+            },
+            runs.plays.1,
+          ),
         );
       }
 
@@ -229,39 +240,29 @@ module _ {L : Type 0} (gives : L → Line → L → Type 0) (ended : L → L →
         listed = lines_and told.answered (told.line ∷ []);
         last = lines_after;
         given = subst (λ (l : L). AllGiven gives lines (lines_and told.answered (told.line ∷ [])) l) line.lines_last
-            (came gives device.numbers telling start told.last told.answered (told.line ∷ []) line.last.lines told.plays
-            (one_more gives device.numbers telling told.last.lines line.last.lines told.line told.given));
+            (came_one gives device.numbers telling _ _ told.answered told.line _ told.plays told.given);
         ends = inl refl;
         plays = (
           device,
           blank,
-          inr (inl (record {
-            score = line.score;
-            first = line.first;
-            last = state_at [] line.last.device line.last.score line.last.log;
-            plays = record {
-              answered = told.answered;
-              last = state_at (told.line ∷ []) told.last.device told.last.score told.last.log;
-              plays = listed gives device.numbers telling start told.last told.answered (told.line ∷ []) told.plays;
-              line = told.line;
-              reply = told.reply;
-              given = refl;
-              played = told.played;
-              failed = told.failed;
-            };
-            lines_last = refl;
-            log_last = line.log_last;
-          })),
+          inr (inl (up_to_listed gives stops telling device Sink lines lines_after log log_after line (lines_and told.answered (told.line ∷ [])) (record {
+            answered = told.answered;
+            last = state_at (told.line ∷ []) told.last.device told.last.score told.last.log;
+            plays = listed gives device.numbers telling start told.last told.answered (told.line ∷ []) told.plays;
+            line = told.line;
+            reply = told.reply;
+            given = refl;
+            played = told.played;
+            failed = told.failed;
+          }))),
         );
       }
   untold device blank (inr (inr end)) =
       let plays = end.plays in
-      let last : At L = record end.last { lines = plays.last } in
-      let start : At L = state_at lines device end.score _ in
       record {
         listed = lines_and plays.answered [];
         last = plays.last;
-        given = came gives device.numbers telling start last plays.answered [] plays.last plays.plays (none_more gives device.numbers telling plays.last);
+        given = came_all gives device.numbers telling _ _ plays.answered plays.plays;
         ends = elim plays.ends [
           | inl none ↦ inr (subst (λ (l : L). ended plays.last l) end.lines_last none)
           | inr many ↦ inl (sym end.lines_last ∙ many.1)
@@ -273,7 +274,7 @@ module _ {L : Type 0} (gives : L → Line → L → Type 0) (ended : L → L →
             score = end.score;
             first = end.first;
             last = state_at [] end.last.device end.last.score end.last.log;
-            plays = record { answered = plays.answered; last = []; plays = listed gives device.numbers telling start last plays.answered [] plays.plays; ends = inl (refl, refl) };
+            plays = listed_all gives device.numbers telling _ _ plays.answered plays.plays;
             lines_last = refl;
             failed = end.failed;
           })),

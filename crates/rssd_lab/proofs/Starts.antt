@@ -17,6 +17,8 @@ use Rattle.rssd_run.specs.PlayRuns.{IsBlankDie}
 use Rattle.schemes.specs.Schemes.{meaning_named, HasRow}
 use Rattle.rssd_run.proofs.BlankCells.{IsBlank, blank_counts}
 use Rattle.rssd_run.proofs.HeadLimits.{head_limits, head_fits}
+use Rattle.rssd_run.proofs.PairPlays.{pair_blank}
+use Rattle.rssd_run.proofs.WornPlays.{worn_blank}
 use Rattle.schemes.proofs.Rows.{named_row}
 use Rattle.lab_words.specs.declared.asked.AskedDie.{AskedDie}
 use Rattle.lab_words.specs.declared.asked.DieKind.{DieKind}
@@ -24,11 +26,11 @@ use Rattle.lab_words.specs.declared.asked.DieKind.TheVariants.{Plain, Worn, Pair
 use Rattle.lab_words.specs.Orders.{command_on, IsDieWithin}
 use Rattle.rssd_lab.specs.declared.stage.Stage.{Stage}
 use Rattle.rssd_lab.specs.declared.stage.Stage.TheVariants.{Blank, Image}
-use Rattle.rssd_lab.specs.Dies.{IsBlankOf, IsBlankDevice}
+use Rattle.rssd_lab.specs.Dies.{IsBlankOf}
 use Rattle.rssd_lab.specs.Stages.{IsStageWithin, head_on}
 
 -- a new die has no charged cell, and no mount of it fails
-pub new_blank : (shape : Shape) (die : DieState) → IsNew shape die → IsBlankDie shape die
+new_blank : (shape : Shape) (die : DieState) → IsNew shape die → IsBlankDie shape die
 new_blank shape die new = record { same_shape = new.same_shape; blank = new.blank; erases = new.erases; read_faults = new.read_faults; change_faults = new.change_faults }
 
 pub new_mounts : (shape : Shape) (d : Numbers) (die new : DieState) → IsNew shape die → MountFails d die new → ⊥
@@ -54,12 +56,29 @@ module _ (head : ImageHead) (within : is_within_limits head ≡ true) (die : Die
   refused_so new DieFault never misshaped refuses = absurd (never refuses)
   refused_so new NoSpare never misshaped refuses = inr (refl, refuses.full)
 
-  pub refused : (new : DieState) (why : MountError) → (MountFails (numbers_named head) die new → ⊥) → (why ≡ BadShape → ¬ Fits die.shape meaning (plan_of head))
+  refused : (new : DieState) (why : MountError) → (MountFails (numbers_named head) die new → ⊥) → (why ≡ BadShape → ¬ Fits die.shape meaning (plan_of head))
       → Refuses (numbers_of die.shape meaning (plan_of head)) die new why → (why ≡ OutOfMemory) ⊎ ((why ≡ NoSpare) × EveryBlockLive (numbers_named head).geometry die)
   refused new why never misshaped refuses = refused_so new why never misshaped (subst (λ (d : Numbers). Refuses d die new why) numbers_same refuses)
 
-  pub mounts_so : (device : DeviceValue) → Mounts (numbers_of die.shape meaning (plan_of head)) die device → Mounts (numbers_named head) die device
+  mounts_so : (device : DeviceValue) → Mounts (numbers_of die.shape meaning (plan_of head)) die device → Mounts (numbers_named head) die device
   mounts_so device mounts = subst (λ (d : Numbers). Mounts d die device) numbers_same mounts
+
+-- The same of a die that stands within another one.
+module _ {D : Type 0} (state : D → DieState) {inner die : D} (same : inner ≡ die) (head : ImageHead) (within : is_within_limits head ≡ true)
+    (shape : (state die).shape ≡ shape_of head) (meaning : Meaning) (meaning_is : meaning ≡ meaning_named head.scheme) where
+  inner_shape : (state inner).shape ≡ shape_of head
+  inner_shape = subst (λ (d : D). (state d).shape ≡ shape_of head) (sym same) shape
+
+  pub refused_within : (new : D) (why : MountError) → ((new : D) → MountFails (numbers_named head) (state die) (state new) → ⊥)
+      → (why ≡ BadShape → ¬ Fits (state inner).shape meaning (plan_of head)) → Refuses (numbers_of (state inner).shape meaning (plan_of head)) (state inner) (state new) why
+      → (why ≡ OutOfMemory) ⊎ ((why ≡ NoSpare) × EveryBlockLive (numbers_named head).geometry (state die))
+  refused_within new why never misshaped refuses =
+      subst (λ (d : D). (why ≡ OutOfMemory) ⊎ ((why ≡ NoSpare) × EveryBlockLive (numbers_named head).geometry (state d))) same
+      (refused head within (state inner) inner_shape meaning meaning_is (state new) why
+      (λ fails. never new (subst (λ (d : D). MountFails (numbers_named head) (state d) (state new)) same fails)) misshaped refuses)
+
+  pub mounts_within : (device : DeviceValue) → Mounts (numbers_of (state inner).shape meaning (plan_of head)) (state inner) device → Mounts (numbers_named head) (state die) device
+  mounts_within device mounts = subst (λ (d : D). Mounts (numbers_named head) (state d) device) same (mounts_so head within (state inner) inner_shape meaning meaning_is device mounts)
 
 -- the head of a die that is within the limits
 pub kind_within : (head : ImageHead) (kind : DieKind) → IsWithin (command_on head kind) → is_within_limits head ≡ true
@@ -70,14 +89,14 @@ kind_within head Pair within = within.0
 pub head_within : (asked : AskedDie) → IsDieWithin asked → is_within_limits asked.head ≡ true
 head_within asked within = kind_within asked.head asked.kind within
 
--- a device that was mounted on a blank die of the head and kind that were asked for
-pub starts : (asked : AskedDie) (kind : DieKind) (head : ImageHead) (die : DieState) → asked.kind ≡ kind → head ≡ asked.head → IsBlankOf asked.head kind die
-    → (device : DeviceValue) → Mounts (numbers_named head) die device → IsBlankDevice asked device
-starts asked kind head die of_kind of_head blank device mounts = record {
-  die = die;
-  blank = subst (λ (k : DieKind). IsBlankOf asked.head k die) (sym of_kind) blank;
-  mounts = subst (λ (h : ImageHead). Mounts (numbers_named h) die device) of_head mounts;
-}
+-- no cell of a blank die is charged, of whichever kind it is
+kind_blank : (head : ImageHead) (kind : DieKind) → IsWithin (command_on head kind) → (die : DieState) → IsBlankOf head kind die → IsBlankDie (shape_of head) die
+kind_blank head Plain within die blank = new_blank (shape_of head) die blank
+kind_blank head (Worn reserve bad) within die blank = worn_blank head reserve bad within.0 within.1 die blank
+kind_blank head Pair within die blank = pair_blank head die within.1 blank
+
+pub blank_of : (asked : AskedDie) → IsDieWithin asked → (head : ImageHead) → head ≡ asked.head → (die : DieState) → IsBlankOf asked.head asked.kind die → IsBlankDie (shape_of head) die
+blank_of asked within head of_head die blank = subst (λ (h : ImageHead). IsBlankDie (shape_of h) die) (sym of_head) (kind_blank asked.head asked.kind within die blank)
 
 -- no block of a blank die has a live record
 pub never_full : (head : ImageHead) → is_within_limits head ≡ true → (die : DieState) → IsShaped die → IsBlankDie (shape_of head) die → EveryBlockLive (numbers_named head).geometry die → ⊥

@@ -1,19 +1,18 @@
 -- What a run leaves that stopped, and that its log has grown.
-use Rattle.std.proofs.Common.{◌≡◌, inl, inr, List, [], ◌∷◌, ◌++◌, Result, Ok, Err, refl, ap, sym, ◌∙◌, subst, append-nil}
-use Rattle.std.specs.Prelude.{OnOk, IfErr}
+use Rattle.std.proofs.Common.{◌≡◌, inl, inr, List, [], ◌∷◌, ◌++◌, refl, ap, sym, ◌∙◌, subst, append-nil}
 use Rattle.cell_die.specs.DieState.{DieState}
 use Rattle.rssd_core.specs.DeviceValue.{Numbers, DeviceValue}
 use Rattle.rssd_io.specs.Event.{Event, Grows, HasFailed}
 use Rattle.rssd_io.proofs.Logs.{came_behind}
 use Rattle.rssd_script.specs.declared.lines.Line.{Line}
 use Rattle.lab_lines.specs.declared.lines.LinesEnd.{LinesEnd}
-use Rattle.lab_tables.proofs.Failing.{failed_later}
+use Rattle.lab_stream.proofs.Takes.{failed_later}
 use Rattle.rssd_lab.specs.declared.telling.Telling.{Telling}
 use Rattle.rssd_lab.specs.declared.score.Score.{Score}
 use Rattle.rssd_lab.specs.declared.status.Stop.{Stop}
 use Rattle.rssd_lab.specs.declared.status.Stop.TheVariants.{Lines, NotPlayed, Sink, OutOfMemory}
 use Rattle.rssd_lab.specs.Chain.{Chain}
-use Rattle.rssd_lab.specs.Runs.{Answered, At, PlaysLines, StopsLines, StopsRun, IsFirst, handed, told_for, run_head, state_at}
+use Rattle.rssd_lab.specs.Runs.{Answered, At, PlaysAll, PlaysLines, StopsLines, RunsUpTo, StopsRun, IsFirst, handed, told_for, run_head, state_at}
 use Rattle.rssd_lab.specs.Started.{RunsFrom, StopsFrom}
 
 pub grew : {L : Type 0} (gives : L → Line → L → Type 0) (d : Numbers) (telling : Telling) (old new : At L) (answered : List Answered)
@@ -26,33 +25,29 @@ grew gives d telling old new (first ∷ rest) chain =
     (given ++ more.0, came_behind old.log chain.0.log new.log given more.0 chain.1.told more.1)
 
 module _ {L : Type 0} (gives : L → Line → L → Type 0) (ended : L → L → Type 0) (stops : L → LinesEnd → L → Type 0) (telling : Telling) (device : DeviceValue) where
+  run_up_to : (score : Score) → IsFirst device score → (lines : L) (log between : List Event) → between ≡ log ++ handed (run_head ∷ []) → (why : Stop) (last : At L)
+      → StopsLines gives stops device.numbers telling (state_at lines device score between) why last → RunsUpTo gives stops telling device why lines last.lines log last.log
+  run_up_to score first lines log between head why last stopped = record {
+    score = score;
+    first = first;
+    last = last;
+    plays = subst (λ (l : List Event). StopsLines gives stops device.numbers telling (state_at lines device score l) why last) head stopped;
+    lines_last = refl;
+    log_last = refl;
+  }
+
   pub stops_run : (score : Score) → IsFirst device score → (lines : L) (log between : List Event) → between ≡ log ++ handed (run_head ∷ []) → (why : Stop) (last : At L)
       → StopsLines gives stops device.numbers telling (state_at lines device score between) why last → StopsRun gives ended stops telling device why lines last.lines log last.log
-  stops_run score first lines log between head (Lines why) last stopped = record {
-    score = score;
-    first = first;
-    last = last;
-    plays = subst (λ (l : List Event). StopsLines gives stops device.numbers telling (state_at lines device score l) (Lines why) last) head stopped;
-    lines_last = refl;
-    log_last = refl;
-  }
-  stops_run score first lines log between head (NotPlayed number) last stopped = record {
-    score = score;
-    first = first;
-    last = last;
-    plays = subst (λ (l : List Event). StopsLines gives stops device.numbers telling (state_at lines device score l) (NotPlayed number) last) head stopped;
-    lines_last = refl;
-    log_last = refl;
-  }
-  stops_run score first lines log between head Sink last stopped = inr (inl (record {
-    score = score;
-    first = first;
-    last = last;
-    plays = subst (λ (l : List Event). StopsLines gives stops device.numbers telling (state_at lines device score l) Sink last) head stopped;
-    lines_last = refl;
-    log_last = refl;
-  }))
+  stops_run score first lines log between head (Lines why) last stopped = run_up_to score first lines log between head (Lines why) last stopped
+  stops_run score first lines log between head (NotPlayed number) last stopped = run_up_to score first lines log between head (NotPlayed number) last stopped
+  stops_run score first lines log between head Sink last stopped = inr (inl (run_up_to score first lines log between head Sink last stopped))
   stops_run score first lines log between head OutOfMemory last stopped = absurd stopped
+
+  -- all lines were played behind the head
+  pub plays_behind : {score : Score} {lines : L} {last : At L} (log between : List Event) → between ≡ log ++ handed (run_head ∷ [])
+      → PlaysAll gives ended device.numbers telling (state_at lines device score between) last
+      → PlaysAll gives ended device.numbers telling (state_at lines device score (log ++ handed (run_head ∷ []))) last
+  plays_behind {score} {lines} {last} log between head plays = subst (λ (l : List Event). PlaysAll gives ended device.numbers telling (state_at lines device score l) last) head plays
 
   -- a call of the sink failed, wherever it was
   pub sink_failed : (lines after : L) (log log_after : List Event) → StopsRun gives ended stops telling device Sink lines after log log_after → HasFailed log log_after
@@ -77,23 +72,7 @@ module _ {L : Type 0} (gives : L → Line → L → Type 0) (ended : L → L →
   started_stops Start begins lines after log log_after OutOfMemory stopped = absurd stopped
 
 -- where each device of the one start is one of the other
-module _ {L : Type 0} (gives : L → Line → L → Type 0) (ended : L → L → Type 0) (stops : L → LinesEnd → L → Type 0) (telling : Telling)
+module _ {L : Type 0} (gives : L → Line → L → Type 0) (ended : L → L → Type 0) (telling : Telling)
     (S T : DeviceValue → Type 0) (each : (device : DeviceValue) → S device → T device) (lines after : L) (log log_after : List Event) where
   pub runs_so : (P Q : DieState → Type 0) → ((die : DieState) → P die → Q die) → RunsFrom gives ended telling S P lines after log log_after → RunsFrom gives ended telling T Q lines after log log_after
   runs_so P Q left run = (run.0, each run.0 run.1, run.2, left run.2.last.device.view.die run.3)
-
-  pub runs_more : {E : Type 0} (r : Result (Unit {0}) E) (End : DieState → Type 0)
-      → OnOk r (RunsFrom gives ended telling S End lines after log log_after) → OnOk r (RunsFrom gives ended telling T End lines after log log_after)
-  runs_more (Ok x) End run = runs_so End End (λ die left. left) run
-  runs_more (Err why) End run = tt
-
-  pub stops_so : (why : Stop) → StopsFrom gives ended stops telling S why lines after log log_after → StopsFrom gives ended stops telling T why lines after log log_after
-  stops_so (Lines why) stop = (stop.0, each stop.0 stop.1, stop.2)
-  stops_so (NotPlayed number) stop = (stop.0, each stop.0 stop.1, stop.2)
-  stops_so Sink stop = (stop.0, each stop.0 stop.1, stop.2)
-  stops_so OutOfMemory stop = stop
-
-  pub stops_more : (r : Result (Unit {0}) Stop) → IfErr r (λ why. StopsFrom gives ended stops telling S why lines after log log_after)
-      → IfErr r (λ why. StopsFrom gives ended stops telling T why lines after log log_after)
-  stops_more (Ok x) stop = tt
-  stops_more (Err why) stop = stops_so why stop

@@ -9,7 +9,7 @@ use Rattle.count_die.specs.Tallies.{counted_of, blocks_of}
 use Rattle.count_die.specs.Covers.{Covers}
 use Rattle.rssd_core.specs.DeviceValue.{DeviceValue}
 use Rattle.lab_tables.specs.Tables.{kind_table, block_table}
-use Rattle.lab_tables.proofs.Failing.{failed_later}
+use Rattle.lab_stream.proofs.Takes.{failed_later}
 use Rattle.rssd_lab.specs.declared.telling.Telling.{Telling}
 use Rattle.rssd_lab.specs.declared.score.Score.{Score}
 use Rattle.rssd_lab.specs.Runs.{handed, is_due, row_now, TellsAtEnd}

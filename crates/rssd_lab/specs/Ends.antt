@@ -27,13 +27,13 @@ use Rattle.rssd_run.specs.GiveImage.{image_pieces}
 use Rattle.rssd_run.specs.Heads.{numbers_named}
 use Rattle.rssd_run.specs.ImageRuns.{HasCells, IsFull}
 use Rattle.rssd_run.specs.ReadImage.{TakesImage}
-use Rattle.rssd_run.specs.Statuses.{Input, Output, takes, taken, ReadFailed, IsUntouched, Took, TookPart, TookNothing, GaveLine, WriteFailed}
+use Rattle.rssd_run.specs.Statuses.{Input, Output, takes, taken, ReadFailed, IsUntouched, Took, TookPart, TookNothing, GaveLine, WriteFailed, bad_line}
 use Rattle.rssd_run.specs.Top.{IsNoImage, IsFullImage}
 use Rattle.rssd_lab.specs.declared.telling.Telling.{Telling}
 use Rattle.rssd_lab.specs.declared.status.Status.{Status}
 use Rattle.rssd_lab.specs.declared.status.Status.TheVariants.{Done, BadWords, BadLine, BadImage, ReadFault, WriteFault, OutOfMemory}
 use Rattle.rssd_lab.specs.declared.status.Stop.TheVariants as stops
-use Rattle.rssd_lab.specs.Top.{IsTold, bad_line}
+use Rattle.rssd_lab.specs.Top.{IsTold}
 use Rattle.rssd_lab.specs.declared.stage.Stage.{Stage}
 use Rattle.rssd_lab.specs.declared.status.Halt.{Halt}
 use Rattle.rssd_lab.specs.declared.status.Halt.TheVariants.{NoSpare, Ended}

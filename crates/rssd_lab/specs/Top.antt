@@ -1,5 +1,5 @@
 -- What a call of the laboratory leaves, by its status.
-use Rattle.std.specs.Prelude.{◌≡◌, ◌⊎◌, ℕ, Bool, true, false, List, [], ◌∷◌, ◌++◌, Option, None, Some, Result, Ok, Err, codes, decimal}
+use Rattle.std.specs.Prelude.{◌≡◌, ◌⊎◌, ℕ, Bool, true, false, List, Option, None, Some, Result, Ok, Err}
 use Rattle.mem_die.specs.declared.mem.MemDie.{MemDie}
 use Rattle.mem_die.specs.MemState.{mem_state}
 use Rattle.die_image.specs.declared.error.ImageError.TheVariants as errors
@@ -18,7 +18,7 @@ use Rattle.rssd_run.specs.declared.run.image.ImageReadError.{ImageReadError}
 use Rattle.rssd_run.specs.declared.run.image.ImageReadError.TheVariants as images
 use Rattle.rssd_run.specs.GiveImage.{image_pieces}
 use Rattle.rssd_run.specs.ImageRuns.{HasCells}
-use Rattle.rssd_run.specs.Statuses.{bad_image, no_spare}
+use Rattle.rssd_run.specs.Statuses.{GaveLine, output, bad_image, bad_line, no_spare}
 use Rattle.rssd_lab.specs.declared.status.Halt.{Halt}
 use Rattle.rssd_lab.specs.declared.status.Halt.TheVariants as halts
 use Rattle.rssd_lab.specs.declared.status.Stop.{Stop}
@@ -36,10 +36,7 @@ number_of OutOfMemory = 7
 
 -- the line was given and handed on, or the sink failed; the status stays as it is
 abbrev pub GivesLine : List ℕ → List Event → List Event → Type 0
-GivesLine line log log_after = HandsOn (line ∷ []) log log_after ⊎ StopsIn (line ∷ []) log log_after
-
-abbrev pub bad_line : ℕ → List ℕ
-bad_line number = codes "bad line " ++ decimal number ++ 10 ∷ []
+GivesLine line log log_after = GaveLine (output log log_after) line
 
 -- the replies are told where the voice is loud
 abbrev pub is_loud : Voice → Bool

@@ -1,13 +1,11 @@
 //! A laboratory on a die, for each scheme of the table, and on a blank one of each kind. The die that counts stands outermost: what
 //! the device asks of its die is counted, and no call that a die with reserve blocks makes by itself.
 ghost use Rattle.std.specs.Prelude.{◌≡◌, IfOk, IfErr, OnOk};
-ghost use Rattle.die_image.specs.Image.{shape_of};
 ghost use Rattle.rssd_core.specs.Mount.{Mounts};
 ghost use Rattle.lab_words.specs.Orders.{IsDieWithin};
 ghost use Rattle.rssd_run.specs.Heads.{numbers_named};
-ghost use Rattle.rssd_run.specs.PlayRuns.{IsBlankDie};
 ghost use Rattle.schemes.specs.Schemes.{meaning_named};
-ghost use Rattle.rssd_lab.specs.Dies.{IsBlankDevice};
+ghost use Rattle.rssd_lab.specs.Dies.{IsBlankDevice, IsBlankOf};
 ghost use Rattle.rssd_lab.specs.Stages.{AnyDie};
 ghost use Rattle.rssd_lab.specs.Started.{RunsFrom, StopsFrom, StopsOn, RefusesMount};
 
@@ -136,19 +134,20 @@ pub fn run_on<D: Die + Drop, L: Lines, O: Sink>(
     }
 }
 
-/// Plays all lines on a die with no charged cell.
+/// Plays all lines on a blank die that was made as it was asked for.
 fn run_blank<D: Die + Drop, L: Lines, O: Sink>(
     alloc: Global,
+    asked: &AskedDie,
     telling: Telling,
     ready: Ready<D>,
     lines: &mut L,
     out: &mut O,
 ) -> Result<(), Stop>
-    requires { IsBlankDie (shape_of ready.head) (D.state ready.die) }
-    ensures done { OnOk result (RunsFrom L.gives L.ended telling (Mounts (numbers_named ready.head) (D.state ready.die)) AnyDie
-        lines.old lines.new (O.log out.old) (O.log out.new)) }
-    ensures stops { IfErr result (λ why. StopsFrom L.gives L.ended L.stops telling (Mounts (numbers_named ready.head) (D.state ready.die)) why
-        lines.old lines.new (O.log out.old) (O.log out.new)) }
+    requires within { IsDieWithin asked.now }
+    requires head { ready.head ≡ asked.now.head }
+    requires blank { IsBlankOf asked.now.head asked.now.kind (D.state ready.die) }
+    ensures done { OnOk result (RunsFrom L.gives L.ended telling (IsBlankDevice asked.now) AnyDie lines.old lines.new (O.log out.old) (O.log out.new)) }
+    ensures stops { IfErr result (λ why. StopsFrom L.gives L.ended L.stops telling (IsBlankDevice asked.now) why lines.old lines.new (O.log out.old) (O.log out.new)) }
 {
     match run_on(alloc, telling, ready, lines, out) {
         Ok(_) => Ok(()),
@@ -178,19 +177,19 @@ pub fn run_asked<L: Lines, O: Sink>(
             let Ok(ready) = plain(alloc, asked.head) else {
                 return Err(Stop::OutOfMemory);
             };
-            run_blank(alloc, telling, ready, lines, out)
+            run_blank(alloc, asked, telling, ready, lines, out)
         }
         DieKind::Worn { reserve, bad } => {
             let Ok(ready) = worn(alloc, asked.head, reserve, bad) else {
                 return Err(Stop::OutOfMemory);
             };
-            run_blank(alloc, telling, ready, lines, out)
+            run_blank(alloc, asked, telling, ready, lines, out)
         }
         DieKind::Pair => {
             let Ok(ready) = pair(alloc, asked.head) else {
                 return Err(Stop::OutOfMemory);
             };
-            run_blank(alloc, telling, ready, lines, out)
+            run_blank(alloc, asked, telling, ready, lines, out)
         }
     }
 }

@@ -1,10 +1,9 @@
 -- The head was handed on first, then all lines were played and told, and the tables come behind.
-use Rattle.std.proofs.Common.{inl, inr, List, [], ◌∷◌, ◌++◌, ◌≡◌, refl, sym, ◌∙◌, subst}
-use Rattle.rssd_io.specs.Event.{Event}
+use Rattle.std.proofs.Common.{inl, inr, [], ◌∷◌, ◌++◌, ◌≡◌, refl, sym, ◌∙◌}
 use Rattle.rssd_run.proofs.CallStops.{stopped}
-use Rattle.rssd_lab.specs.Runs.{At, PlaysAll, handed, run_head, state_at}
+use Rattle.rssd_lab.specs.Runs.{At, handed, run_head, state_at}
 use Rattle.rssd_lab.proofs.Told.{at_err, at_ok}
-use Rattle.rssd_lab.proofs.Stopped.{stops_run}
+use Rattle.rssd_lab.proofs.Stopped.{stops_run, plays_behind}
 use Rattle.rssd_lab.proofs.laboratory.run.Goals as goal
 
 pub returns-in-Ok-tell_at_end-clause-done : goal.returns-in-Ok-tell_at_end-clause-done
@@ -13,14 +12,12 @@ returns-in-Ok-tell_at_end-clause-done g c =
     let device = g.F.Device.device in
     let score = c.first_score-score.result in
     let head : log c.give_last.new.sink ≡ log c.args.out.now ++ handed (run_head ∷ []) = at_ok c.give_last.result _ (sym c.is_err.ensures.value ∙ c.if-is_err.false) c.give_last.ensures.done in
-    let last : At g.row.L.Denot = state_at c.play_all.new.lines (device c.play_all.new.ftl) c.play_all.new.score (log c.play_all.new.out) in
-    let from = λ (l : List Event). PlaysAll g.L.Lines.gives g.L.Lines.ended (device c.args.ftl.now).numbers c.args.telling
-    (state_at c.args.lines.now (device c.args.ftl.now) score l) last in (
+    let last : At g.row.L.Denot = state_at c.play_all.new.lines (device c.play_all.new.ftl) c.play_all.new.score (log c.play_all.new.out) in (
       record {
         score = score;
         first = c.first_score-score.ensures;
         last = last;
-        plays = subst from head c.in-Ok.ensures.done;
+        plays = plays_behind g.L.Lines.gives g.L.Lines.ended g.L.Lines.stops c.args.telling (device c.args.ftl.now) (log c.args.out.now) _ head c.in-Ok.ensures.done;
         lines_last = refl;
         tells = c.in-Ok-tell_at_end.ensures.done;
       },
@@ -39,13 +36,11 @@ returns-in-Err-tell_at_end-clause-stops g c =
     let score = c.first_score-score.result in
     let head : log c.give_last.new.sink ≡ log c.args.out.now ++ handed (run_head ∷ []) = at_ok c.give_last.result _ (sym c.is_err.ensures.value ∙ c.if-is_err.false) c.give_last.ensures.done in
     let last : At g.row.L.Denot = state_at c.play_all.new.lines (device c.play_all.new.ftl) c.play_all.new.score (log c.play_all.new.out) in
-    let from = λ (l : List Event). PlaysAll g.L.Lines.gives g.L.Lines.ended (device c.args.ftl.now).numbers c.args.telling
-    (state_at c.args.lines.now (device c.args.ftl.now) score l) last in
     inr (inr (record {
       score = score;
       first = c.first_score-score.ensures;
       last = last;
-      plays = subst from head c.in-Ok.ensures.done;
+      plays = plays_behind g.L.Lines.gives g.L.Lines.ended g.L.Lines.stops c.args.telling (device c.args.ftl.now) (log c.args.out.now) _ head c.in-Ok.ensures.done;
       lines_last = refl;
       failed = c.in-Err-tell_at_end.ensures.fault;
     }))

@@ -4,7 +4,7 @@ use Rattle.cell_die.specs.DieState.{DieState}
 use Rattle.count_die.specs.Covers.{Covers}
 use Rattle.rssd_io.proofs.Logs.{came_behind}
 use Rattle.rssd_io.proofs.Pieces.{on_err}
-use Rattle.lab_tables.proofs.Failing.{failed_later}
+use Rattle.lab_stream.proofs.Takes.{failed_later}
 use Rattle.rssd_lab.proofs.Told.{tells_ok, tells_err}
 use Rattle.rssd_lab.proofs.laboratory.tell_at_end.Goals as goal
 

@@ -19,6 +19,6 @@ returns-in_ok-left-in-Image-clause-done g c =
     let is : Image ready ≡ c.args.stage = sym c.in-Image.is in
     subst (λ (stage : Stage). RunsFrom g.L.Lines.gives g.L.Lines.ended c.args.telling (StartOn stage) (EndOn stage (Some left))
     c.args.lines.now c.run_on.new.lines (g.O.Sink.log c.args.out.now) (g.O.Sink.log c.run_on.new.out)) is
-    (runs_so g.L.Lines.gives g.L.Lines.ended g.L.Lines.stops c.args.telling start start (λ device mounts. mounts)
+    (runs_so g.L.Lines.gives g.L.Lines.ended c.args.telling start start (λ device mounts. mounts)
     c.args.lines.now c.run_on.new.lines (g.O.Sink.log c.args.out.now) (g.O.Sink.log c.run_on.new.out)
     (λ (die : DieState). mem_state left ≡ die) (EndOn (Image ready) (Some left)) (λ die same. (left, refl, same)) c.in_ok-left-in-Image.ensures.done)

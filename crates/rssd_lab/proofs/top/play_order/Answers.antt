@@ -1,17 +1,13 @@
 -- The lines are those that the order names.
-use Rattle.std.proofs.Common.{◌≡◌, inl, ℕ, ◌<◌, ◌^◌, true, refl, ap, sym, ◌∙◌, subst}
-use Rattle.lab_lines.specs.declared.drawn.Plan.{Plan}
-use Rattle.lab_lines.specs.Workload.{DrawPlan}
-use Rattle.lab_lines.specs.Drawing.{plan_of, left_of}
+use Rattle.std.proofs.Common.{◌≡◌, inl, true, refl, sym, subst}
 use Rattle.lab_words.specs.declared.asked.LinesFrom.{LinesFrom}
-use Rattle.lab_words.specs.Orders.{IsDrawnWithin}
 use Rattle.die_image.specs.declared.head.ImageHead.{ImageHead}
 use Rattle.die_image.specs.Image.{is_within_limits}
 use Rattle.rssd_run.specs.Statuses.{input, output}
 use Rattle.rssd_lab.specs.declared.status.Status.TheVariants.{OutOfMemory}
 use Rattle.rssd_lab.specs.Stages.{StartOn, EndOn, head_on}
-use Rattle.rssd_lab.specs.Ends.{PlaysDrawn, PlaysAllOf, StopsOf, plan_for}
-use Rattle.rssd_lab.proofs.Ends.{where_ok, where_err, order_halts, drawn_order_halts}
+use Rattle.rssd_lab.specs.Ends.{PlaysAllOf, StopsOf}
+use Rattle.rssd_lab.proofs.Ends.{where_ok, where_err, order_halts, drawn_for, drawn_order_plays, drawn_order_halts}
 use Rattle.rssd_lab.proofs.Starts.{stage_within}
 use Rattle.rssd_lab.proofs.top.play_order.Goals as goal
 
@@ -44,43 +40,23 @@ returns-in-Ok-clause-all g c =
     let stage = c.args.stage in
     let read = input (g.I.Source.log c.args.input) (g.I.Source.log c.args.input) in
     let out = output (g.O.Sink.log c.args.out.now) (g.O.Sink.log c.play_drawn-played.new.out) in
-    let drawn = c.in-Ok.drawn in
-    let head : c.head.result ≡ head_on stage = c.head.ensures in
-    let plan : plan_of drawn ≡ plan_for (head_on stage) c.in-Drawn.kind c.in-Drawn.idle = c.in-Ok.ensures.plan
-    ∙ ap (λ (p : Plan). let plan : DrawPlan = record { kind = p.kind; sectors = p.sectors; sector_bytes = p.sector_bytes; idle = p.idle } in plan) c.plan_of.ensures.is
-    ∙ ap (λ (h : ImageHead). plan_for h c.in-Drawn.kind c.in-Drawn.idle) head in
-    let left_is : left_of drawn ≡ c.in-Drawn.count = c.in-Ok.ensures.left in
-    let within = subst IsDrawnWithin c.in-Drawn.is c.requires.within.from in
-    let few : left_of drawn < 2 ^ 64 = subst (λ (n : ℕ). n < 2 ^ 64) (sym left_is) within.1 in
+    let of_order = drawn_for c.in-Ok.drawn c.in-Drawn.is c.requires.within.from c.in-Ok.ensures.plan c.in-Ok.ensures.state c.in-Ok.ensures.left c.plan_of.ensures.is c.head.ensures in
     where_ok c.play_drawn-played.result (λ left plays. (
       telling,
       c.telling_of-telling.ensures,
-      subst (λ (from : LinesFrom). PlaysAllOf from telling (head_on stage) (StartOn stage) (EndOn stage left) read out) (sym c.in-Drawn.is) (
-        subst (λ (p : DrawPlan). PlaysDrawn telling (StartOn stage) (EndOn stage left) p c.in-Drawn.seed c.in-Drawn.count out) plan
-            (subst (λ (n : ℕ). PlaysDrawn telling (StartOn stage) (EndOn stage left) (plan_of drawn) c.in-Drawn.seed n out) left_is (plays c.in-Drawn.seed c.in-Ok.ensures.state few)),
-        refl,
-      ),
+      drawn_order_plays stage of_order telling (EndOn stage left) read out refl (plays of_order.seed of_order.state of_order.few),
     )) c.play_drawn-played.ensures.all
 
 pub returns-in-Ok-clause-halts : goal.returns-in-Ok-clause-halts
 returns-in-Ok-clause-halts g c =
     let telling = c.telling_of-telling.result in
-    let stage = c.args.stage in
     let read = input (g.I.Source.log c.args.input) (g.I.Source.log c.args.input) in
     let out = output (g.O.Sink.log c.args.out.now) (g.O.Sink.log c.play_drawn-played.new.out) in
-    let drawn = c.in-Ok.drawn in
-    let head : c.head.result ≡ head_on stage = c.head.ensures in
-    let plan : plan_of drawn ≡ plan_for (head_on stage) c.in-Drawn.kind c.in-Drawn.idle = c.in-Ok.ensures.plan
-    ∙ ap (λ (p : Plan). let plan : DrawPlan = record { kind = p.kind; sectors = p.sectors; sector_bytes = p.sector_bytes; idle = p.idle } in plan) c.plan_of.ensures.is
-    ∙ ap (λ (h : ImageHead). plan_for h c.in-Drawn.kind c.in-Drawn.idle) head in
-    let left_is : left_of drawn ≡ c.in-Drawn.count = c.in-Ok.ensures.left in
-    let within = subst IsDrawnWithin c.in-Drawn.is c.requires.within.from in
-    let few : left_of drawn < 2 ^ 64 = subst (λ (n : ℕ). n < 2 ^ 64) (sym left_is) within.1 in
+    let of_order = drawn_for c.in-Ok.drawn c.in-Drawn.is c.requires.within.from c.in-Ok.ensures.plan c.in-Ok.ensures.state c.in-Ok.ensures.left c.plan_of.ensures.is c.head.ensures in
     where_err c.play_drawn-played.result (λ halt halts. (
       telling,
       c.telling_of-telling.ensures,
-      drawn_order_halts c.args.asked.now.from c.in-Drawn.kind c.in-Drawn.seed c.in-Drawn.count c.in-Drawn.idle c.in-Drawn.is telling stage read out refl (plan_of drawn) plan (left_of drawn) left_is
-          halt (halts c.in-Drawn.seed c.in-Ok.ensures.state few),
+      drawn_order_halts c.args.stage of_order telling read out refl halt (halts of_order.seed of_order.state of_order.few),
     )) c.play_drawn-played.ensures.halts
 
 pub returns-in-Err-clause-halts : goal.returns-in-Err-clause-halts
