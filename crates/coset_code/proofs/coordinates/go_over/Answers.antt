@@ -8,16 +8,13 @@ use Rattle.coset_code.specs.Solution.{IsFreeBasis}
 use Rattle.coset_code.specs.Coordinates.{HasCoordinates, IsFreeSet, IsChargedSet}
 use Rattle.coset_code.proofs.NoneOver.{IsMessage, none_over}
 use Rattle.coset_code.proofs.ChangeOfBasis.{unit_at}
+use Rattle.coset_code.proofs.CoordinateLemmas.{read}
 use Rattle.coset_code.proofs.OverLemmas.{none_wanted, none_masked, left_within, left_free, there, free_set_of, carried, IsHalfWay, IsThere}
 use Rattle.coset_code.proofs.coordinates.go_over.Goals as goal
 
--- the same coordinates, as they are read
-read : (columns coords : List ℕ) (full : Family) {coords' : List ℕ} → HasCoordinates columns coords full → coords' ≡ coords → HasCoordinates columns coords' full
-read columns coords full s e = subst (λ cs. HasCoordinates columns cs full) (sym e) s
-
 pub charged_places-mask-requires-clause-units : goal.charged_places-mask-requires-clause-units
 charged_places-mask-requires-clause-units c =
-    unit_at c.args.system.now.columns.items c.deref-coords.result.now c.args.system.now.full (read _ _ _ c.requires.system.coordinates c.deref-coords.ensures.value)
+    unit_at c.args.system.now.columns.items c.deref-coords.result.now c.args.system.now.full (read c.requires.system.coordinates c.deref-coords.ensures.value)
 
 pub returns-in-None-clause-went : goal.returns-in-None-clause-went
 returns-in-None-clause-went c =
@@ -32,7 +29,7 @@ charge_set-requires-in-Some-find_solution-clause-set c =
     let columns : List ℕ = c.args.system.now.columns.items in
     let coords : List ℕ = c.deref-coords.result.now in
     let mid : List Bool = cells_of (length coords) c.charge_set.new.row in
-    let small = left_within columns coords c.args.system.now.full (read _ _ _ c.requires.system.coordinates c.deref-coords.ensures.value) c.in-Some.wanted c.in-Some.ensures.within mid in
+    let small = left_within columns coords c.args.system.now.full (read c.requires.system.coordinates c.deref-coords.ensures.value) c.in-Some.wanted c.in-Some.ensures.within mid in
     subst (λ s. bit_xor c.in-Some.wanted s < 2 ^ length c.args.system.now.full.columns) (sym c.syndrome_of-in-Some-find_solution.ensures) small
 
 pub returns-in-None-find_solution-clause-went : goal.returns-in-None-find_solution-clause-went
@@ -40,7 +37,7 @@ returns-in-None-find_solution-clause-went c =
     let columns : List ℕ = c.args.system.now.columns.items in
     let coords : List ℕ = c.deref-coords.result.now in
     let masked : List ℕ = c.mask_all.new.masked in
-    let s : HasCoordinates columns coords c.args.system.now.full = read _ _ _ c.requires.system.coordinates c.deref-coords.ensures.value in
+    let s : HasCoordinates columns coords c.args.system.now.full = read c.requires.system.coordinates c.deref-coords.ensures.value in
     let n : ℕ = length columns in
     let words : List ℕ = c.args.old.now in
     let mask : ℕ = c.charged_places-mask.result in
@@ -73,7 +70,7 @@ returns-in-Some-find_solution-clause-went c =
     let mask : ℕ = c.charged_places-mask.result in
     let wanted : ℕ = c.in-Some.wanted in
     let set : ℕ = c.in-Some-find_solution.set in
-    let s : HasCoordinates columns coords full = read _ _ _ c.requires.system.coordinates c.deref-coords.ensures.value in
+    let s : HasCoordinates columns coords full = read c.requires.system.coordinates c.deref-coords.ensures.value in
     let len : length masked ≡ n = c.mask_all.ensures.masked_len ∙ s.coords_len in
     let sum : c.syndrome_of.result ≡ syndrome coords old = c.syndrome_of.ensures ∙ ap (λ k. syndrome coords (cells_of k words)) s.coords_len in
     let sum_mid : c.syndrome_of-in-Some-find_solution.result ≡ syndrome coords mid = c.syndrome_of-in-Some-find_solution.ensures ∙ ap (λ k. syndrome coords (cells_of k halfway)) s.coords_len in
