@@ -79,3 +79,7 @@ places_free bit places place h two f p l e =
       | inl i ↦ h p i e
       | inr i ↦ let same : p ≡ place = omega arith in ap bit same ∙ uncharged (bit place) two f
     ]
+
+-- the same coordinates, as they are read
+pub read : {columns coords coords' : List ℕ} {full : Family} → HasCoordinates columns coords full → coords' ≡ coords → HasCoordinates columns coords' full
+read {columns} {coords} {coords'} {full} s e = subst (λ cs. HasCoordinates columns cs full) (sym e) s

@@ -6,9 +6,9 @@ use Rattle.wom_code.specs.Cells.{Carries, NoneCarries}
 use Rattle.wom_code.specs.Packed.{IsRow, cells_of, words_for}
 use Rattle.coset_code.specs.Sums.{syndrome, bits_of}
 use Rattle.coset_code.specs.Solution.{IsBasisSolution}
-use Rattle.gf2_solve.specs.Family.{Family}
 use Rattle.coset_code.specs.Coordinates.{HasCoordinates}
-use Rattle.coset_code.specs.declared.turned.Turned.{Turned}
+use Rattle.coset_code.specs.declared.system.Room.{Room}
+use Rattle.coset_code.specs.declared.system.System.{System}
 use Rattle.coset_code.specs.Rows.{IsReady}
 
 -- bit i of the message is the sum over GF(2) of bit i of the columns of the charged cells
@@ -27,13 +27,21 @@ pub record IsTable (k n : ℕ) (columns : List ℕ) : Type 0 where
 abbrev pub IsShape : ℕ → ℕ → List ℕ → Type 0
 IsShape k n columns = (1 ≤ k) × (k ≤ 128) × (length columns ≡ n) × All (λ column. column < 2 ^ k) columns
 
--- a code's table, its basis and coordinates, and its three rows
-pub record IsCoset (k n : ℕ) (columns coords masked : List ℕ) (full : Family) (rank : ℕ) (turned : Turned) (old message out : List ℕ) : Type 0 where
-  pub table : IsTable k n columns
-  pub system : HasCoordinates columns coords full
-  pub rank_is : rank ≡ length full.columns
-  pub masked_room : length masked ≡ length coords
-  pub ready : IsReady coords full turned
+-- each column of the table has its coordinates in the full basis, whose columns are counted
+pub record IsSystem (s : System) : Type 0 where
+  pub coordinates : HasCoordinates s.columns.items s.coords.items s.full
+  pub rank_is : s.rank ≡ length s.full.columns
+
+-- the room fits the system, and is ready for calls by rows
+pub record HasRoom (s : System) (r : Room) : Type 0 where
+  pub masked : length r.masked.items ≡ length s.coords.items
+  pub ready : IsReady s.coords.items s.full r.turned
+
+-- a code's table with its system and room, and its three rows
+pub record IsCoset (k n : ℕ) (system : System) (room : Room) (old message out : List ℕ) : Type 0 where
+  pub table : IsTable k n system.columns.items
+  pub system_of : IsSystem system
+  pub room_of : HasRoom system room
   pub old_row : length old ≡ words_for n
   pub message_row : length message ≡ words_for k
   pub out_row : length out ≡ words_for n

@@ -5,7 +5,7 @@ use Rattle.gf2_solve.specs.Family.{Family}
 use Rattle.gf2_solve.specs.Span.{subset_sum}
 use Rattle.wom_code.specs.Cells.{IsAbove}
 use Rattle.wom_code.specs.Packed.{word_bit, cells_of, words_for, IsRow}
-use Rattle.coset_code.specs.declared.turned.Turned.{Turned}
+use Rattle.coset_code.specs.declared.system.Turned.{Turned}
 use Rattle.coset_code.specs.Sums.{syndrome}
 use Rattle.coset_code.specs.Solution.{IsBasisSolution}
 

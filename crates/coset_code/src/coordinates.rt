@@ -1,16 +1,18 @@
 //! The table by coordinates in the greedy basis of all its columns. A call eliminates only at the charged
 //! cells of that basis, and its uncharged cells bring about what is left.
 
-ghost use Rattle.std.specs.Prelude.{◌≡◌, ℕ, ◌+◌, ◌*◌, ◌^◌, ◌<◌, ◌≤◌, List, [], length, slice_index};
+ghost use Rattle.std.specs.Prelude.{◌≡◌, ℕ, ◌+◌, ◌*◌, ◌^◌, ◌<◌, ◌≤◌, List, [], length, slice_index, IfOk};
 ghost use Rattle.std.specs.Int.{bit_at};
 ghost use Rattle.wom_code.specs.Packed.{cells_of, word_bit, words_for, IsRow};
-ghost use Rattle.coset_code.specs.Code.{IsTable, WentOver};
+ghost use Rattle.coset_code.specs.Code.{HasRoom, IsSystem, IsTable, WentOver};
 ghost use Rattle.coset_code.specs.Solution.{HasOffered};
 ghost use Rattle.coset_code.specs.Coordinates.{HasCoordinates, IsChargedSet, IsCounted, IsFreeSet, IsMasked};
 
 use crate::message::number_of;
 use crate::solve::{find_solution, syndrome_of};
+use crate::system::{Room, System};
 use gf2_solve::{Basis, Offered};
+use std::alloc::{AllocError, Global};
 use wom_code::{Carry, charge, is_charged};
 
 /// Offers the column of a cell, and says whether it was taken.
@@ -99,42 +101,62 @@ pub fn charge_set(basis: &Basis, set: u128, row: &mut [u64])
 /// Charges the basis solution that makes the old cells carry the message. Only the coordinates at
 /// charged cells of the full basis are solved for; its uncharged cells then bring any others about.
 pub fn go_over(
-    work: &mut Basis,
-    full: &Basis,
-    rank: u32,
-    columns: &[u128],
-    coords: &[u128],
-    masked: &mut [u128],
+    system: &System,
+    room: &mut Room,
     bits: usize,
     old: &[u64],
     message: &[u64],
     out: &mut [u64],
 ) -> Carry
-    requires table { IsTable bits (length columns.now) columns.now }
-    requires coordinates { HasCoordinates columns.now coords.now full.now }
-    requires rank { rank ≡ length full.now.columns }
-    requires masked { length masked.old ≡ length coords.now }
-    requires old { IsRow (length columns.now) old.now }
+    requires table { IsTable bits (length system.now.columns.items) system.now.columns.items }
+    requires system { IsSystem system.now }
+    requires room { HasRoom system.now room.old }
+    requires old { IsRow (length system.now.columns.items) old.now }
     requires message { IsRow bits message.now }
-    requires out { length out.old ≡ words_for (length columns.now) }
-    ensures went { WentOver result bits (length columns.now) columns.now old.now message.now out.old out.new }
-    ensures room { length masked.new ≡ length coords.now }
+    requires out { length out.old ≡ words_for (length system.now.columns.items) }
+    ensures went { WentOver result bits (length system.now.columns.items) system.now.columns.items old.now message.now out.old out.new }
+    ensures room { HasRoom system.now room.new }
 {
-    let wanted = match full.express(number_of(message)) {
+    let wanted = match system.full.express(number_of(message)) {
         None => return Carry::Declined,
         Some(wanted) => wanted,
     };
-    let mask = charged_places(full, rank, coords, old);
+    let coords: &[u128] = &system.coords;
+    let masked: &mut [u128] = &mut room.masked;
+    let mask = charged_places(&system.full, system.rank, coords, old);
     mask_all(coords, mask, masked);
     let target = (wanted ^ syndrome_of(coords, old)) & mask;
-    match find_solution(work, masked, old, target, mask.count_ones() as usize) {
+    match find_solution(
+        &mut room.basis,
+        masked,
+        old,
+        target,
+        mask.count_ones() as usize,
+    ) {
         None => Carry::Declined,
         Some(set) => {
             out.copy_from_slice(old);
-            charge_set(work, set, out);
+            charge_set(&room.basis, set, out);
             let left = wanted ^ syndrome_of(coords, out);
-            charge_set(full, left, out);
+            charge_set(&system.full, left, out);
             Carry::Carried
         }
     }
+}
+
+/// The system of a table.
+pub fn make_system(alloc: Global, columns: Vec<u128>) -> Result<System, AllocError>
+    requires { length columns.items < 2 ^ 32 }
+    ensures columns { IfOk result (λ system. system.columns.items ≡ columns.items) }
+    ensures system { IfOk result (λ system. IsSystem system) }
+{
+    let mut full = Basis::new(alloc)?;
+    let mut coords = vec![in alloc; 0; columns.len()]?;
+    let rank = take_coordinates(&mut full, &columns, &mut coords);
+    Ok(System {
+        columns,
+        full,
+        rank,
+        coords,
+    })
 }

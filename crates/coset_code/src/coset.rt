@@ -9,11 +9,11 @@ ghost use Rattle.coset_code.specs.Solution.{is_basis_solution};
 ghost use Rattle.coset_code.specs.Refusal.{IsMade};
 ghost use Rattle.coset_code.specs.Words.{columns_from};
 
-use crate::coordinates::take_coordinates;
+use crate::coordinates::make_system;
 use crate::message::{sum_of, write_bits, write_number};
 use crate::solve::syndrome_of;
-use crate::turned::{Turned, go, make_turned};
-use gf2_solve::Basis;
+use crate::system::{Room, System};
+use crate::turned::{go, make_room};
 use rand_core::SeedableRng;
 use rand_core::utils::NextWord;
 use rand_xoshiro::SplitMix64;
@@ -117,16 +117,8 @@ fn has_shape(columns: &[u128], bits: usize, cells: usize) -> bool
 /// columns of uncharged cells with lower numbers.
 #[derive(Drop)]
 pub struct Coset<const K: usize, const N: usize> {
-    columns: Vec<u128>,
-    // the basis of all columns, how many it has, and each column's coordinates in it
-    full: Basis,
-    rank: u32,
-    coords: Vec<u128>,
-    // the coordinates at charged cells, and the basis of those of uncharged cells
-    masked: Vec<u128>,
-    basis: Basis,
-    // the coordinates by rows, and room for rows
-    turned: Turned,
+    system: System,
+    room: Room,
     // rows for the calls on truth values
     old: Vec<u64>,
     message: Vec<u64>,
@@ -139,9 +131,9 @@ impl<const K: usize, const N: usize> Model for Coset<K, N> {
 
     ghost Value = { List ℕ };
 
-    ghost view = { λ c. c.columns.items };
+    ghost view = { λ c. c.system.columns.items };
 
-    ghost invariant = { λ c. IsCoset K N c.columns.items c.coords.items c.masked.items c.full c.rank c.turned c.old.items c.message.items c.out.items };
+    ghost invariant = { λ c. IsCoset K N c.system c.room c.old.items c.message.items c.out.items };
 }
 
 impl<const K: usize, const N: usize> Coset<K, N> {
@@ -157,18 +149,10 @@ impl<const K: usize, const N: usize> Coset<K, N> {
             return Err(CosetRefusal::Shape);
         }
         let Columns { columns } = columns;
-        let mut full = Basis::new(alloc)?;
-        let mut coords = vec![in alloc; 0; columns.len()]?;
-        let rank = take_coordinates(&mut full, &columns, &mut coords);
-        let turned = make_turned(alloc, &full, rank, &coords)?;
+        let system = make_system(alloc, columns)?;
         Ok(Coset {
-            masked: vec![in alloc; 0; columns.len()]?,
-            columns,
-            full,
-            rank,
-            coords,
-            basis: Basis::new(alloc)?,
-            turned,
+            room: make_room(alloc, &system)?,
+            system,
             old: vec![in alloc; 0; N.div_ceil(64)]?,
             message: vec![in alloc; 0; K.div_ceil(64)]?,
             out: vec![in alloc; 0; N.div_ceil(64)]?,
@@ -182,20 +166,15 @@ impl<const K: usize, const N: usize> WomCode<K, N> for Coset<K, N> {
     ghost gives = { λ code old message new. is_basis_solution code old new };
 
     fn decode(&self, cells: &[bool], msg: &mut [bool]) {
-        write_bits(sum_of(&self.columns, cells), msg);
+        write_bits(sum_of(&self.system.columns, cells), msg);
     }
 
     fn over(&mut self, old: &[bool], msg: &[bool], out: &mut [bool]) -> Carry {
         pack(old, &mut self.old);
         pack(msg, &mut self.message);
         let carry = go(
-            &mut self.basis,
-            &self.full,
-            self.rank,
-            &self.columns,
-            &self.coords,
-            &mut self.masked,
-            &mut self.turned,
+            &self.system,
+            &mut self.room,
             K,
             &self.old,
             &self.message,
@@ -211,22 +190,10 @@ impl<const K: usize, const N: usize> WomCode<K, N> for Coset<K, N> {
 
 impl<const K: usize, const N: usize> PackedCode<K, N> for Coset<K, N> {
     fn decode_words(&self, cells: &[u64], msg: &mut [u64]) {
-        write_number(syndrome_of(&self.columns, cells), msg);
+        write_number(syndrome_of(&self.system.columns, cells), msg);
     }
 
     fn over_words(&mut self, old: &[u64], msg: &[u64], out: &mut [u64]) -> Carry {
-        go(
-            &mut self.basis,
-            &self.full,
-            self.rank,
-            &self.columns,
-            &self.coords,
-            &mut self.masked,
-            &mut self.turned,
-            K,
-            old,
-            msg,
-            out,
-        )
+        go(&self.system, &mut self.room, K, old, msg, out)
     }
 }

@@ -7,6 +7,7 @@ mod laws;
 mod message;
 mod rows;
 mod solve;
+mod system;
 mod turned;
 
 pub use coset::{Columns, Coset, CosetRefusal, OutOfMemory};

@@ -8,26 +8,17 @@ ghost use Rattle.std.specs.Int.{bit_at};
 ghost use Rattle.gf2_solve.specs.Family.{Family};
 ghost use Rattle.gf2_solve.specs.Span.{subset_sum};
 ghost use Rattle.wom_code.specs.Packed.{IsRow, word_bit, words_for};
-ghost use Rattle.coset_code.specs.Code.{IsTable, WentOver};
+ghost use Rattle.coset_code.specs.Code.{HasRoom, IsSystem, IsTable, WentOver};
 ghost use Rattle.coset_code.specs.Coordinates.{HasCoordinates};
 ghost use Rattle.coset_code.specs.Rows.{AreSeparate, AreSound, HasGoneOver, HasUnits, IsLaid, IsReady, IsTurned};
 
 use crate::coordinates::{charge_set, go_over};
 use crate::rows::{WANTED, Words, eliminate, solve};
 use crate::solve::{column_at, syndrome_of};
+use crate::system::{Room, System, Turned};
 use gf2_solve::Basis;
 use std::alloc::{AllocError, Global};
 use wom_code::Carry;
-
-/// What is made once for calls by rows, and their room.
-#[derive(Drop)]
-pub struct Turned {
-    pub ready: bool,
-    pub units: Vec<u128>,
-    pub table: Vec<u64>,
-    pub rows: Vec<u64>,
-    pub trial: Vec<u64>,
-}
 
 /// Bit `i` is the coordinate of cell `64 * index + i` at a place.
 fn turn_word(coords: &[u128], index: usize, place: u32) -> u64
@@ -243,36 +234,33 @@ fn try_rows(
 /// Charges the basis solution that makes the old cells carry the message: by rows where they find it,
 /// and else vector by vector.
 pub fn go(
-    work: &mut Basis,
-    full: &Basis,
-    rank: u32,
-    columns: &[u128],
-    coords: &[u128],
-    masked: &mut [u128],
-    turned: &mut Turned,
+    system: &System,
+    room: &mut Room,
     bits: usize,
     old: &[u64],
     message: &[u64],
     out: &mut [u64],
 ) -> Carry
-    requires table { IsTable bits (length columns.now) columns.now }
-    requires coordinates { HasCoordinates columns.now coords.now full.now }
-    requires rank { rank ≡ length full.now.columns }
-    requires masked { length masked.old ≡ length coords.now }
-    requires made { IsReady coords.now full.now turned.old }
-    requires old { IsRow (length columns.now) old.now }
+    requires table { IsTable bits (length system.now.columns.items) system.now.columns.items }
+    requires system { IsSystem system.now }
+    requires room { HasRoom system.now room.old }
+    requires old { IsRow (length system.now.columns.items) old.now }
     requires message { IsRow bits message.now }
-    requires out { length out.old ≡ words_for (length columns.now) }
-    ensures went { WentOver result bits (length columns.now) columns.now old.now message.now out.old out.new }
-    ensures room { length masked.new ≡ length coords.now }
-    ensures made { IsReady coords.now full.now turned.new }
+    requires out { length out.old ≡ words_for (length system.now.columns.items) }
+    ensures went { WentOver result bits (length system.now.columns.items) system.now.columns.items old.now message.now out.old out.new }
+    ensures room { HasRoom system.now room.new }
 {
-    if try_rows(full, coords, turned, old, message, out) {
+    if try_rows(
+        &system.full,
+        &system.coords,
+        &mut room.turned,
+        old,
+        message,
+        out,
+    ) {
         return Carry::Carried;
     }
-    go_over(
-        work, full, rank, columns, coords, masked, bits, old, message, out,
-    )
+    go_over(system, room, bits, old, message, out)
 }
 
 /// What calls by rows need, for rows of so many words.
@@ -296,5 +284,17 @@ pub fn make_turned(
         table,
         rows: vec![in alloc; 0; 384]?,
         trial: vec![in alloc; 0; coords.len().div_ceil(64)]?,
+    })
+}
+
+/// The room of calls over a system.
+pub fn make_room(alloc: Global, system: &System) -> Result<Room, AllocError>
+    requires { IsSystem system.now }
+    ensures { IfOk result (λ room. HasRoom system.now room) }
+{
+    Ok(Room {
+        masked: vec![in alloc; 0; system.coords.len()]?,
+        basis: Basis::new(alloc)?,
+        turned: make_turned(alloc, &system.full, system.rank, &system.coords)?,
     })
 }

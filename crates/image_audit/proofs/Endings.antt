@@ -18,7 +18,7 @@ use Rattle.cell_bits.proofs.Slices.{above_take}
 use Rattle.zero_count.specs.HeaderWord.{zero_bits, is_valid}
 use Rattle.zero_count.proofs.ValidWords.{are_bytes, byte_small, take_bytes, zeros_below, valid_parts, IsValidWord}
 use Rattle.zero_count.proofs.Reading.{valid_from_parts, bytes_from_each}
-use Rattle.image_audit.specs.HeaderCells.{LiesBelowValid, MayEndIn, HasEnding, ones_before_kind}
+use Rattle.image_audit.specs.HeaderCells.{LiesBelowValid, MayEndIn, HasEnding}
 
 -- ---- bits of rows that lie above others
 

@@ -1,19 +1,17 @@
 -- What marks say is the verdict on the cells, and sound cells have no other verdict.
-use Rattle.std.proofs.Common.{◌≡◌, ◌⊎◌, inl, inr, ℕ, ◌+◌, ◌*◌, ◌^◌, ◌<◌, ◌≤◌, List, [], ◌∷◌, ◌++◌, map, true, length, slice_index, Option, Some, None, refl, sym, ap, ◌∙◌, subst, arith}
+use Rattle.std.proofs.Common.{◌≡◌, inl, inr, ℕ, ◌+◌, ◌*◌, ◌^◌, ◌<◌, ◌≤◌, List, [], ◌∷◌, ◌++◌, map, true, length, slice_index, Some, None, refl, sym, ap, ◌∙◌, subst, arith}
 use Rattle.std.specs.Prelude.{◌↔◌}
-use Rattle.std.specs.List.{All, filter_map}
+use Rattle.std.specs.List.{All}
 use Rattle.std.specs.Fork.{slice_chunk}
 use Rattle.std.proofs.lemmas.Bool.{cases_lt}
 use Rattle.std.proofs.lemmas.List.Elements.{All-weaker}
 use Rattle.std.proofs.lemmas.List.FromFn.{length-map-range_with_len}
 use Rattle.zero_count.specs.declared.Header.{Header}
-use Rattle.spare_gate.specs.Slots.{word_at}
 use Rattle.cell_bits.specs.Cells.{AreBytes}
 use Rattle.cell_bits.proofs.Slices.{bytes_drop, bytes_take}
-use Rattle.cell_die.specs.Cells.{page_at}
 use Rattle.mem_die.specs.PageLaws.{page_at-pages, chunk_whole}
 use Rattle.page_codec.specs.declared.place.Place.{Place}
-use Rattle.page_codec.specs.Geometry.{Geometry, HasShape, page_count, shape_of, spare_at}
+use Rattle.page_codec.specs.Geometry.{Geometry, HasShape, page_count, shape_of}
 use Rattle.page_codec.specs.Records.{Placed, places, header_in, may_hold}
 use Rattle.page_codec.specs.Sound.{IsSound, HeadersBelow, SeqsDiffer, SeqsBelow}
 use Rattle.page_codec.proofs.Newest.{Member, kept_member}
@@ -29,7 +27,7 @@ use Rattle.image_audit.specs.Images.{HasLength, pages_in, whole_bytes}
 use Rattle.image_audit.specs.Marks.{marks_in, placed_of, newest_of, first_repeat, first_high, AreLive}
 use Rattle.image_audit.specs.Reading.{LiesBelow, ReadTo}
 use Rattle.image_audit.specs.Said.{MarksSay, SomeUntaken, HighAt, IsWhole, told_by}
-use Rattle.image_audit.specs.Verdicts.{IsFirst, IsFirstRepeat, RepeatsAt, IsHighAt, SomeBlockFree, EveryBlockLive, LiesBelowNone, SameSeqAs, at_place, placed_in, headers, IsVerdict}
+use Rattle.image_audit.specs.Verdicts.{IsFirst, IsFirstRepeat, RepeatsAt, IsHighAt, SomeBlockFree, LiesBelowNone, SameSeqAs, at_place, placed_in, headers, IsVerdict}
 use Rattle.image_audit.proofs.LiveCells.{IsLiveMark, live_marks, taken_counts, untaken_counts, told_held, told_stored}
 use Rattle.image_audit.proofs.Marked.{marks_are_headers}
 use Rattle.image_audit.proofs.Ordered.{listed_within, headers_apart, header_listed}

@@ -1,6 +1,6 @@
 -- The limits of a head, as those of its geometry.
-use Rattle.std.proofs.Common.{◌≡◌, ℕ, ◌+◌, ◌-◌, ◌*◌, ◌≤◌, Bool, true, refl, sym, ap, ◌∙◌, arith, lit≤}
-use Rattle.std.specs.Prelude.{nat_le, ◌&&◌, List, length}
+use Rattle.std.proofs.Common.{◌≡◌, ℕ, ◌+◌, ◌-◌, ◌*◌, ◌≤◌, true, arith, lit≤}
+use Rattle.std.specs.Prelude.{nat_le, ◌&&◌, List}
 use Rattle.std.proofs.lemmas.Bool.{leb-true, and_parts}
 use Rattle.die_image.specs.declared.head.ImageHead.{ImageHead}
 use Rattle.die_image.specs.declared.scheme.SchemeName.{SchemeName}

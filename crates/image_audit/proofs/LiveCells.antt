@@ -1,8 +1,8 @@
 -- The live records among the marks are those of the cells: which blocks they stand in, and what they tell.
-use Rattle.std.proofs.Common.{◌≡◌, ◌⊎◌, inl, inr, ℕ, zero, suc, ◌+◌, ◌-◌, ◌/◌, ◌<◌, ◌≤◌, Bool, true, false, cond, List, [], ◌∷◌, ◌++◌, map, length, replicate, ◌&&◌, ◌||◌, ◌==◌, nat_lt}
+use Rattle.std.proofs.Common.{◌≡◌, inl, inr, ℕ, zero, suc, ◌+◌, ◌-◌, ◌/◌, ◌<◌, Bool, true, false, cond, List, [], ◌∷◌, ◌++◌, map, length, replicate, ◌||◌, ◌==◌}
 use Rattle.std.proofs.Common.{if◌then◌else◌, Option, Some, None, refl, sym, ap, ap₂, ◌∙◌, subst, arith}
 use Rattle.std.specs.Prelude.{nat_eq, unwrap_or}
-use Rattle.std.specs.List.{All, count_by, filter_map, list_any, range_with_len}
+use Rattle.std.specs.List.{All, count_by, filter_map, range_with_len}
 use Rattle.std.specs.Map.{lookup}
 use Rattle.std.proofs.lemmas.Bool.{cases_Bool, cases_eq, and_parts, eqb-true, eq-eqb, ne_eqb, ltb-true, false≢true}
 use Rattle.std.proofs.lemmas.Option.{same_Some, none-some}
@@ -11,17 +11,16 @@ use Rattle.std.proofs.lemmas.List.Sums.{sum_by-cons}
 use Rattle.zero_count.specs.declared.Header.{Header}
 use Rattle.striped.specs.Meaning.{Decoding}
 use Rattle.page_codec.specs.declared.place.Place.{Place}
-use Rattle.page_codec.specs.Geometry.{Geometry, page_count, block_of}
-use Rattle.page_codec.specs.Records.{Placed, places, header_in, may_hold, newest, live_record}
-use Rattle.page_codec.specs.Sectors.{says_zeros, zero_sector, said_by, stored}
+use Rattle.page_codec.specs.Geometry.{Geometry, block_of}
+use Rattle.page_codec.specs.Records.{Placed, places, header_in, may_hold, live_record}
+use Rattle.page_codec.specs.Sectors.{said_by, stored}
 use Rattle.page_codec.specs.Sound.{stands_in, live_count}
 use Rattle.page_codec.proofs.Newest.{Member, member_kept, kept_member, newest_some}
-use Rattle.page_codec.proofs.Live.{holds_within}
 use Rattle.image_audit.specs.declared.mark.Mark.{Mark}
 use Rattle.image_audit.specs.Held.{first_met, sectors_found, without_zeros, unless_zeros, bytes_held, held, filled_up, array_told}
 use Rattle.image_audit.specs.Marks.{is_counted, mark_of, marks_in, placed_of, counted_of, counted_sector, newest_of, sectors_in, AreLive}
-use Rattle.image_audit.specs.Said.{is_taken, AllTaken, SomeUntaken, told_by, IsWhole}
-use Rattle.image_audit.proofs.FirstMet.{member_met, met_member}
+use Rattle.image_audit.specs.Said.{is_taken, told_by, IsWhole}
+use Rattle.image_audit.proofs.FirstMet.{member_met}
 use Rattle.image_audit.proofs.Marked.{newest_is_live, sectors_are_found, counted_parts}
 use Rattle.image_audit.proofs.Repeats.{all_member}
 

@@ -1,17 +1,17 @@
 -- What is known of all marks is what the live records are, in the order of the map.
-use Rattle.std.proofs.Common.{◌≡◌, ◌⊎◌, inl, inr, ℕ, Bool, true, false, cond, List, [], ◌∷◌, map, ◌==◌, Option, Some, None, refl, sym, ap, ap₂, ◌∙◌, subst}
+use Rattle.std.proofs.Common.{◌≡◌, inl, inr, ℕ, Bool, false, cond, List, [], ◌∷◌, map, Some, refl, sym, ap, ap₂, ◌∙◌, subst}
 use Rattle.std.specs.Prelude.{nat_eq}
 use Rattle.std.specs.Option.{option_map}
 use Rattle.std.specs.List.{All, IsDistinct, AllByRecursion}
 use Rattle.std.specs.Map.{lookup, keys_of, values_of}
-use Rattle.std.specs.HashMap.{HashMap, get, keys, values}
+use Rattle.std.specs.HashMap.{HashMap, values}
 use Rattle.std.proofs.lemmas.Bool.{eq-eqb, ne_eqb, false≢true}
 use Rattle.std.proofs.lemmas.List.Elements.{All-nil, All-cons}
 use Rattle.page_codec.specs.Records.{Placed}
 use Rattle.page_codec.proofs.Newest.{Member}
 use Rattle.image_audit.specs.declared.mark.Mark.{Mark}
 use Rattle.image_audit.specs.Live.{Knows}
-use Rattle.image_audit.specs.Marks.{placed_of, newest_of, sectors_in, AreLive}
+use Rattle.image_audit.specs.Marks.{placed_of, newest_of, AreLive}
 use Rattle.image_audit.proofs.LiveCells.{IsCountedMark, newest_mark}
 
 key_apart : (k : ℕ) (es : List (ℕ × Mark)) (e : ℕ × Mark) → AllByRecursion (λ y. nat_eq k y ≡ false) (keys_of es) → Member e es → nat_eq k e.0 ≡ false

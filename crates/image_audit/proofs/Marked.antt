@@ -1,5 +1,5 @@
 -- The marks of all slots are the headers of the die, and say of its sectors what its cells say.
-use Rattle.std.proofs.Common.{◌≡◌, ◌⊎◌, inl, inr, ℕ, Bool, true, false, List, [], ◌∷◌, ◌++◌, map, ◌&&◌, ◌==◌, nat_lt, if◌then◌else◌, Option, Some, None, refl, sym, ap, ap₂, ◌∙◌, subst}
+use Rattle.std.proofs.Common.{◌≡◌, ℕ, Bool, true, false, List, [], ◌∷◌, map, ◌&&◌, ◌==◌, nat_lt, if◌then◌else◌, Option, Some, None, refl, sym, ap, ap₂, ◌∙◌}
 use Rattle.std.specs.List.{filter_map, cons_option}
 use Rattle.std.proofs.lemmas.Bool.{eqb-true}
 use Rattle.std.proofs.lemmas.Option.{same_Some, none-some}
@@ -7,7 +7,6 @@ use Rattle.zero_count.specs.declared.Header.{Header}
 use Rattle.page_codec.specs.declared.place.Place.{Place}
 use Rattle.page_codec.specs.Geometry.{Geometry}
 use Rattle.page_codec.specs.Records.{Placed, places, header_in, may_hold, below_sectors, record_in, is_committed, if_committed, committed_in, of_sector, records_of, newest, live_record}
-use Rattle.page_codec.proofs.Newest.{Member, member_kept}
 use Rattle.image_audit.specs.declared.mark.Mark.{Mark}
 use Rattle.image_audit.specs.Held.{first_met, sector_of, sectors_found}
 use Rattle.image_audit.specs.Marks.{is_counted, mark_of, marks_in, placed_of, counted_of, counted_sector, newest_of, sectors_in}

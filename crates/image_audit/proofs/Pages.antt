@@ -1,11 +1,9 @@
 -- Where the bytes of a page stand among those of an image.
-use Rattle.std.proofs.Common.{◌≡◌, ℕ, ◌+◌, ◌-◌, ◌*◌, ◌<◌, ◌≤◌, List, take, drop, length, refl, sym, ap, ap₂, ◌∙◌, subst, arith}
+use Rattle.std.proofs.Common.{◌≡◌, ℕ, ◌+◌, ◌-◌, ◌*◌, ◌<◌, ◌≤◌, List, take, drop, length, sym, ap, ap₂, ◌∙◌, arith}
 use Rattle.std.specs.Prelude.{slice_range}
-use Rattle.std.specs.Fork.{slice_chunk}
 use Rattle.std.proofs.Math.Nat.{mul-le-mul_right}
 use Rattle.std.proofs.lemmas.List.{drop-drop, take-take, drop-take}
 use Rattle.page_codec.specs.Geometry.{Geometry, page_count, main_at, spare_at}
-use Rattle.cell_die.specs.Cells.{page_at}
 use Rattle.mem_die.specs.PageLaws.{page_at-pages}
 use Rattle.image_audit.specs.Images.{HasLength, pages_in, whole_bytes}
 

@@ -1,5 +1,5 @@
 -- The first mark that passes a test, and the first whose seq stands in a later one.
-use Rattle.std.proofs.Common.{◌≡◌, ◌⊎◌, inl, inr, ℕ, ◌≤◌, if◌then◌else◌, Bool, true, false, List, [], ◌∷◌, ◌++◌, map, ◌==◌, nat_le, Option, Some, None, refl, sym, ap, ◌∙◌, subst, ◌^◌, ◌+◌}
+use Rattle.std.proofs.Common.{◌≡◌, inl, inr, ℕ, ◌≤◌, if◌then◌else◌, Bool, true, false, List, [], ◌∷◌, ◌++◌, map, ◌==◌, nat_le, Option, Some, None, refl, sym, ap, ◌∙◌, subst, ◌^◌, ◌+◌}
 use Rattle.std.specs.Prelude.{find}
 use Rattle.std.specs.List.{All}
 use Rattle.std.proofs.lemmas.Bool.{eqb-true, leb-true, le-leb, eq-eqb, false≢true}

@@ -1,5 +1,5 @@
 -- Header cells: when 14 bytes lie below a valid word, by how many of their bits are set.
-use Rattle.std.specs.Prelude.{◌≡◌, ℕ, ◌+◌, ◌-◌, ◌≤◌, Bool, true, List, [], ◌∷◌, take, slice_index, count_ones, bit_or, nat_lt, if◌then◌else◌}
+use Rattle.std.specs.Prelude.{◌≡◌, ℕ, ◌+◌, ◌-◌, ◌≤◌, true, List, [], ◌∷◌, take, slice_index, count_ones, bit_or, nat_lt, if◌then◌else◌}
 use Rattle.std.specs.List.{sum_by}
 use Rattle.zero_count.specs.HeaderWord.{is_valid}
 use Rattle.cell_die.specs.Cells.{IsAbove}

@@ -1,5 +1,5 @@
 -- The valid headers of a die in the order of their slots, and what they say of repeated seqs and of live records.
-use Rattle.std.specs.Prelude.{◌≡◌, ℕ, Bool, true, List, [], ◌∷◌, map, ◌&&◌, ◌==◌, nat_lt, nat_le, find, if◌then◌else◌, Option, Some, None, ◌^◌, ◌+◌}
+use Rattle.std.specs.Prelude.{◌≡◌, ℕ, Bool, List, [], ◌∷◌, map, ◌&&◌, ◌==◌, nat_lt, nat_le, find, if◌then◌else◌, Option, Some, None, ◌^◌, ◌+◌}
 use Rattle.std.specs.List.{filter_map, All}
 use Rattle.zero_count.specs.declared.Header.{Header}
 use Rattle.page_codec.specs.declared.place.Place.{Place}

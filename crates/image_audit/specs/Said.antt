@@ -1,5 +1,5 @@
 -- What marks say of the verdict, and of the sectors that are held.
-use Rattle.std.specs.Prelude.{◌≡◌, ℕ, ◌/◌, ◌<◌, Bool, true, false, List, length, ◌==◌, Option, Some, None}
+use Rattle.std.specs.Prelude.{◌≡◌, ℕ, ◌/◌, ◌<◌, Bool, true, false, List, length, ◌==◌, Some, None}
 use Rattle.std.specs.List.{list_any}
 use Rattle.striped.specs.Meaning.{Decoding}
 use Rattle.page_codec.specs.declared.place.Place.{Place}

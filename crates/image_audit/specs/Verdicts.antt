@@ -1,5 +1,5 @@
 -- The audit's verdict: the first part of soundness that does not hold, and the first place where it does not.
-use Rattle.std.specs.Prelude.{◌≡◌, ℕ, ◌+◌, ◌^◌, ◌<◌, ◌≤◌, List, ◌∷◌, ◌++◌, Option, Some, None, map, [], Result, Ok, Err}
+use Rattle.std.specs.Prelude.{◌≡◌, ℕ, ◌+◌, ◌^◌, ◌<◌, ◌≤◌, List, ◌∷◌, ◌++◌, Option, Some, None}
 use Rattle.std.specs.List.{filter_map, All}
 use Rattle.zero_count.specs.declared.Header.{Header}
 use Rattle.spare_gate.specs.Slots.{word_at}

@@ -4,6 +4,7 @@ ghost use Rattle.std.specs.List.{All};
 ghost use Rattle.page_codec.specs.Geometry.{unit_at, page_count};
 ghost use Rattle.page_codec.specs.Records.{may_hold};
 ghost use Rattle.page_codec.specs.Sectors.{said_by};
+ghost use Rattle.image_audit.specs.Held.{without_zeros};
 ghost use Rattle.image_audit.specs.Images.{pages_in, HasLength, IsFitting, IsServed};
 ghost use Rattle.image_audit.specs.Marks.{placed_of};
 ghost use Rattle.image_audit.specs.Said.{told_of, told_by, IsWhole};
@@ -58,28 +59,13 @@ fn read_row<C: Scheme>(
     }
 }
 
-/// What a live record tells.
-fn hold_one<C: Scheme>(
-    alloc: Global,
-    geometry: &Geometry,
-    cells: &[u8],
-    scheme: &C,
-    mark: &Mark,
-    unit: &mut [u8],
-    row: &mut [u8],
-) -> Result<Held, OutOfMemory>
-    requires long { HasLength geometry.now cells.now }
-    requires sizes { IsServed geometry.now (C.meaning scheme.now) }
-    requires place { may_hold geometry.now mark.now.place ≡ true }
-    requires unit { length unit.old ≡ geometry.now.span * geometry.now.main_bytes }
-    requires row { length row.old ≡ geometry.now.sector_bytes }
-    requires fitting { IsFitting geometry.now }
-    ensures told { IfOk result (λ held. told_of held ≡ told_by geometry.now (C.meaning scheme.now).decoding (pages_in geometry.now cells.now) mark.now) }
-    ensures whole { IsWhole geometry.now (C.meaning scheme.now).decoding (pages_in geometry.now cells.now) mark.now }
+/// What a row tells of the sector of a live record.
+fn hold_row(alloc: Global, sector: u32, row: &[u8]) -> Result<Held, OutOfMemory>
+    requires { length row.now ≤ 512 }
+    ensures { IfOk result (λ held. told_of held ≡ (sector, without_zeros row.now)) }
 {
-    read_row(geometry, cells, scheme, mark, unit, row);
     Ok(Held {
-        sector: mark.header.sector,
+        sector,
         bytes: RowBytes::trimmed(alloc, row)?,
     })
 }
@@ -105,7 +91,8 @@ pub(crate) fn hold<C: Scheme>(
     let unit: &mut [u8] = &mut unit_room;
     let row: &mut [u8] = &mut row_room;
     for mark in live {
-        held.push(hold_one(alloc, geometry, cells, scheme, mark, unit, row)?)?;
+        read_row(geometry, cells, scheme, mark, unit, row);
+        held.push(hold_row(alloc, mark.header.sector, row)?)?;
     }
     Ok(held)
 }

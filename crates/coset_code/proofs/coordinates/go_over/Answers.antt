@@ -8,55 +8,58 @@ use Rattle.coset_code.specs.Solution.{IsFreeBasis}
 use Rattle.coset_code.specs.Coordinates.{HasCoordinates, IsFreeSet, IsChargedSet}
 use Rattle.coset_code.proofs.NoneOver.{IsMessage, none_over}
 use Rattle.coset_code.proofs.ChangeOfBasis.{unit_at}
+use Rattle.coset_code.proofs.CoordinateLemmas.{read}
 use Rattle.coset_code.proofs.OverLemmas.{none_wanted, none_masked, left_within, left_free, there, free_set_of, carried, IsHalfWay, IsThere}
 use Rattle.coset_code.proofs.coordinates.go_over.Goals as goal
 
 pub charged_places-mask-requires-clause-units : goal.charged_places-mask-requires-clause-units
-charged_places-mask-requires-clause-units c = unit_at c.args.columns.now c.args.coords.now c.args.full.now c.requires.coordinates
+charged_places-mask-requires-clause-units c =
+    unit_at c.args.system.now.columns.items c.deref-coords.result.now c.args.system.now.full (read c.requires.system.coordinates c.deref-coords.ensures.value)
 
 pub returns-in-None-clause-went : goal.returns-in-None-clause-went
 returns-in-None-clause-went c =
     let m : IsMessage c.args.bits c.number_of.result c.args.message.now = record { bits = c.number_of.ensures; row = c.requires.message } in (
-      none_over c.args.bits c.args.columns.now _ c.number_of.result c.args.message.now c.requires.table m
-          (none_wanted c.args.columns.now c.args.coords.now c.args.full.now c.requires.coordinates _ c.number_of.result (c.in-None.ensures.none.0 refl)),
+      none_over c.args.bits c.args.system.now.columns.items _ c.number_of.result c.args.message.now c.requires.table m
+          (none_wanted c.args.system.now.columns.items c.args.system.now.coords.items c.args.system.now.full c.requires.system.coordinates _ c.number_of.result (c.in-None.ensures.none.0 refl)),
       refl,
     )
 
 pub charge_set-requires-in-Some-find_solution-clause-set : goal.charge_set-requires-in-Some-find_solution-clause-set
 charge_set-requires-in-Some-find_solution-clause-set c =
-    let columns : List ℕ = c.args.columns.now in
-    let coords : List ℕ = c.args.coords.now in
+    let columns : List ℕ = c.args.system.now.columns.items in
+    let coords : List ℕ = c.deref-coords.result.now in
     let mid : List Bool = cells_of (length coords) c.charge_set.new.row in
-    let small = left_within columns coords c.args.full.now c.requires.coordinates c.in-Some.wanted c.in-Some.ensures.within mid in
-    subst (λ s. bit_xor c.in-Some.wanted s < 2 ^ length c.args.full.now.columns) (sym c.syndrome_of-in-Some-find_solution.ensures) small
+    let small = left_within columns coords c.args.system.now.full (read c.requires.system.coordinates c.deref-coords.ensures.value) c.in-Some.wanted c.in-Some.ensures.within mid in
+    subst (λ s. bit_xor c.in-Some.wanted s < 2 ^ length c.args.system.now.full.columns) (sym c.syndrome_of-in-Some-find_solution.ensures) small
 
 pub returns-in-None-find_solution-clause-went : goal.returns-in-None-find_solution-clause-went
 returns-in-None-find_solution-clause-went c =
-    let columns : List ℕ = c.args.columns.now in
-    let coords : List ℕ = c.args.coords.now in
+    let columns : List ℕ = c.args.system.now.columns.items in
+    let coords : List ℕ = c.deref-coords.result.now in
     let masked : List ℕ = c.mask_all.new.masked in
+    let s : HasCoordinates columns coords c.args.system.now.full = read c.requires.system.coordinates c.deref-coords.ensures.value in
     let n : ℕ = length columns in
     let words : List ℕ = c.args.old.now in
     let mask : ℕ = c.charged_places-mask.result in
     let wanted : ℕ = c.in-Some.wanted in
     let m : IsMessage c.args.bits c.number_of.result c.args.message.now = record { bits = c.number_of.ensures; row = c.requires.message } in
-    let len : length masked ≡ n = c.mask_all.ensures.masked_len ∙ c.requires.coordinates.coords_len in
-    let sum : c.syndrome_of.result ≡ syndrome coords (cells_of n words) = c.syndrome_of.ensures ∙ ap (λ k. syndrome coords (cells_of k words)) c.requires.coordinates.coords_len in
+    let len : length masked ≡ n = c.mask_all.ensures.masked_len ∙ s.coords_len in
+    let sum : c.syndrome_of.result ≡ syndrome coords (cells_of n words) = c.syndrome_of.ensures ∙ ap (λ k. syndrome coords (cells_of k words)) s.coords_len in
     let none : ¬ (IsFreeSum masked (cells_of n words) (length masked) (bit_and (bit_xor wanted (syndrome coords (cells_of n words))) mask)) =
     subst (λ s. ¬ (IsFreeSum masked (cells_of n words) (length masked) (bit_and (bit_xor wanted s) mask))) sum
     (subst (λ k. ¬ (IsFreeSum masked (cells_of k words) (length masked) (bit_and (bit_xor wanted c.syndrome_of.result) mask))) len c.in-None-find_solution.ensures.none) in (
       none_over c.args.bits columns (cells_of n words) c.number_of.result c.args.message.now c.requires.table m
-          (none_masked columns coords masked mask c.args.full.now c.requires.coordinates c.mask_all.ensures
+          (none_masked columns coords masked mask c.args.system.now.full s c.mask_all.ensures
           (cells_of n words) c.number_of.result wanted c.in-Some.ensures.within c.in-Some.ensures.found none),
       refl,
     )
 
 pub returns-in-Some-find_solution-clause-went : goal.returns-in-Some-find_solution-clause-went
 returns-in-Some-find_solution-clause-went c =
-    let columns : List ℕ = c.args.columns.now in
-    let coords : List ℕ = c.args.coords.now in
+    let columns : List ℕ = c.args.system.now.columns.items in
+    let coords : List ℕ = c.deref-coords.result.now in
     let masked : List ℕ = c.mask_all.new.masked in
-    let full : Family = c.args.full.now in
+    let full : Family = c.args.system.now.full in
     let work : Family = c.find_solution.new.basis in
     let n : ℕ = length columns in
     let words : List ℕ = c.args.old.now in
@@ -67,7 +70,7 @@ returns-in-Some-find_solution-clause-went c =
     let mask : ℕ = c.charged_places-mask.result in
     let wanted : ℕ = c.in-Some.wanted in
     let set : ℕ = c.in-Some-find_solution.set in
-    let s : HasCoordinates columns coords full = c.requires.coordinates in
+    let s : HasCoordinates columns coords full = read c.requires.system.coordinates c.deref-coords.ensures.value in
     let len : length masked ≡ n = c.mask_all.ensures.masked_len ∙ s.coords_len in
     let sum : c.syndrome_of.result ≡ syndrome coords old = c.syndrome_of.ensures ∙ ap (λ k. syndrome coords (cells_of k words)) s.coords_len in
     let sum_mid : c.syndrome_of-in-Some-find_solution.result ≡ syndrome coords mid = c.syndrome_of-in-Some-find_solution.ensures ∙ ap (λ k. syndrome coords (cells_of k halfway)) s.coords_len in

@@ -1,5 +1,5 @@
 -- The least kind and the least last byte decide.
-use Rattle.std.proofs.Common.{◌≡◌, ℕ, ◌+◌, ◌-◌, ◌≤◌, max, take, slice_index, arith, sym, ap, ◌∙◌, length-take}
+use Rattle.std.proofs.Common.{◌≡◌, ℕ, ◌-◌, max, take, slice_index, arith, ap, ◌∙◌, length-take}
 use lib.Count.{ones, ones-le}
 use Rattle.std.proofs.lemmas.Bool.{false≢true, leb-true, le-leb}
 use Rattle.cell_bits.specs.Cells.{AreBytes}

@@ -1,5 +1,5 @@
 -- Each mark before the first of such a seq is passed.
-use Rattle.std.proofs.Common.{◌≡◌, ℕ, false, List, [], drop, sym, ap, ◌∙◌, arith}
+use Rattle.std.proofs.Common.{false, sym, ap, ◌∙◌, arith}
 use Rattle.std.proofs.lemmas.List.{drop_all}
 use Rattle.image_audit.specs.declared.mark.Mark.{Mark}
 use Rattle.image_audit.specs.Marks.{first_high}

@@ -1,9 +1,8 @@
 -- A slot that lies below no valid word is the verdict.
-use Rattle.std.proofs.Common.{◌≡◌, ℕ, List, [], map, sym, ap, ◌∙◌, subst}
+use Rattle.std.proofs.Common.{◌≡◌, ℕ, List, map, sym, subst}
 use Rattle.page_codec.specs.declared.place.Place.{Place}
 use Rattle.page_codec.specs.Geometry.{Geometry}
 use Rattle.image_audit.specs.declared.row.Held.{Held}
-use Rattle.image_audit.specs.declared.verdict.Verdict.{Verdict}
 use Rattle.image_audit.specs.declared.verdict.Verdict.TheVariants.{Sound, Header as BadHeader}
 use Rattle.image_audit.specs.Audits.{IsAudit}
 use Rattle.image_audit.specs.Images.{geometry_of, pages_in, HasLength}

@@ -1,12 +1,11 @@
 -- What marks say is the verdict on the cells, and what their live records tell is held.
-use Rattle.std.proofs.Common.{◌≡◌, ℕ, ◌<◌, ◌≤◌, true, List, [], map, sym, ap, ◌∙◌, subst, arith}
+use Rattle.std.proofs.Common.{◌≡◌, ◌<◌, true, List, map, sym, ap, ◌∙◌, subst, arith}
 use Rattle.std.specs.List.{All}
 use Rattle.cell_bits.specs.Cells.{AreBytes}
 use Rattle.page_codec.specs.Geometry.{HasShape, page_count, shape_of}
 use Rattle.page_codec.specs.Records.{may_hold}
 use Rattle.image_audit.specs.declared.mark.Mark.{Mark}
 use Rattle.image_audit.specs.declared.row.Held.{Held}
-use Rattle.image_audit.specs.declared.verdict.Verdict.{Verdict}
 use Rattle.image_audit.specs.declared.verdict.Verdict.TheVariants.{Sound}
 use Rattle.image_audit.specs.Audits.{IsAudit}
 use Rattle.image_audit.specs.Images.{pages_in}

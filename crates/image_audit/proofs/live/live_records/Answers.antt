@@ -1,5 +1,5 @@
 -- What is known of all marks is what the live records are.
-use Rattle.std.proofs.Common.{◌≡◌, ℕ, ◌≤◌, List, Vec, Global, take, length, sym, ap, ◌∙◌, subst, arith}
+use Rattle.std.proofs.Common.{◌≡◌, List, Vec, Global, take, sym, subst, arith}
 use Rattle.std.specs.HashMap.{values}
 use Rattle.std.proofs.lemmas.List.{take_all}
 use Rattle.std.proofs.lemmas.Result.{IfOk-weaker}

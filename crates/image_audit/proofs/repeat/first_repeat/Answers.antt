@@ -1,13 +1,12 @@
 -- One mark more, before the others.
-use Rattle.std.proofs.Common.{◌≡◌, ℕ, ◌+◌, ◌-◌, ◌<◌, ◌≤◌, false, List, [], ◌∷◌, drop, length, get_or, Option, Some, None, refl, sym, ap, ◌∙◌, subst, arith}
+use Rattle.std.proofs.Common.{◌≡◌, ℕ, ◌+◌, ◌-◌, ◌<◌, ◌≤◌, false, List, [], ◌∷◌, drop, length, get_or, Option, sym, ap, ◌∙◌, arith}
 use Rattle.std.specs.Prelude.{nat_eq}
-use Rattle.std.specs.Option.{option_map}
 use Rattle.std.specs.HashMap.{get}
 use Rattle.std.specs.Map.{lookup}
 use Rattle.std.proofs.lemmas.List.{drop_more, drop_all}
 use Rattle.page_codec.specs.declared.place.Place.{Place}
 use Rattle.image_audit.specs.declared.mark.Mark.{Mark}
-use Rattle.image_audit.specs.Marks.{with_seq, first_repeat}
+use Rattle.image_audit.specs.Marks.{first_repeat}
 use Rattle.image_audit.proofs.Passed.{place_with, later_more, repeat_by, repeat_more, none_left}
 use Rattle.image_audit.proofs.repeat.first_repeat.Goals as goal
 

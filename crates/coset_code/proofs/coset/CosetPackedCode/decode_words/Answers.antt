@@ -19,13 +19,13 @@ sum_narrow k n columns columns' cells s t e f =
 
 pub write_number-requires-clause-fits : goal.write_number-requires-clause-fits
 write_number-requires-clause-fits g c =
-    let s = sum_narrow g.row.K g.row.N c.self.inside.columns.items c.deref.result.now c.args.cells.now c.syndrome_of.result c.self.invariant.table c.deref.ensures.value c.syndrome_of.ensures in
+    let s = sum_narrow g.row.K g.row.N c.self.inside.system.columns.items c.deref.result.now c.args.cells.now c.syndrome_of.result c.self.invariant.table c.deref.ensures.value c.syndrome_of.ensures in
     let room : g.row.K ≤ 64 * length c.args.msg.now = omega arith in
     omega (arith, s.0, pow_mono room)
 
 pub returns-clause-row : goal.returns-clause-row
 returns-clause-row g c =
-    let s = sum_narrow g.row.K g.row.N c.self.inside.columns.items c.deref.result.now c.args.cells.now c.syndrome_of.result c.self.invariant.table c.deref.ensures.value c.syndrome_of.ensures in
+    let s = sum_narrow g.row.K g.row.N c.self.inside.system.columns.items c.deref.result.now c.args.cells.now c.syndrome_of.result c.self.invariant.table c.deref.ensures.value c.syndrome_of.ensures in
     record {
       count = omega (arith, c.requires.message, c.write_number.auto.words);
       padding = λ i h. c.write_number.ensures i ∙ bit_at_above c.syndrome_of.result g.row.K i s.0 h;
@@ -33,6 +33,6 @@ returns-clause-row g c =
 
 pub returns-clause-message : goal.returns-clause-message
 returns-clause-message g c =
-    let s = sum_narrow g.row.K g.row.N c.self.inside.columns.items c.deref.result.now c.args.cells.now c.syndrome_of.result c.self.invariant.table c.deref.ensures.value c.syndrome_of.ensures in
+    let s = sum_narrow g.row.K g.row.N c.self.inside.system.columns.items c.deref.result.now c.args.cells.now c.syndrome_of.result c.self.invariant.table c.deref.ensures.value c.syndrome_of.ensures in
     cells_of_number g.row.K c.syndrome_of.result c.write_number.new.words c.write_number.ensures
     ∙ ap (bits_of g.row.K) (s.1 ∙ ap (λ cs. syndrome cs (cells_of g.row.N c.args.cells.now)) c.self.view_is)

@@ -18,17 +18,17 @@ moved k columns columns' old old' message message' new new' e f g h c =
 pub returns-clause-carried : goal.returns-clause-carried
 returns-clause-carried g c = λ is.
     let k : ℕ = g.row.K in
-    let columns : List ℕ = c.deref.result.now in
-    let went : WentOver Carried k (length columns) columns c.deref-3.result.now c.deref-4.result.now c.deref_mut-4.result.now c.go-carry.new.out = search rules in
-    let same : c.deref-3.result.now ≡ c.pack.new.words = c.deref-3.ensures.value ∙ all_written _ c.pack.new.words _ (search rules) in
-    let same_message : c.deref-4.result.now ≡ c.pack-2.new.words = c.deref-4.ensures.value ∙ all_written _ c.pack-2.new.words _ (search rules) in
+    let columns : List ℕ = c.self.inside.system.columns.items in
+    let went : WentOver Carried k (length columns) columns c.deref.result.now c.deref-2.result.now c.deref_mut-3.result.now c.go-carry.new.out = search rules in
+    let same : c.deref.result.now ≡ c.pack.new.words = c.deref.ensures.value ∙ all_written _ c.pack.new.words _ (search rules) in
+    let same_message : c.deref-2.result.now ≡ c.pack-2.new.words = c.deref-2.ensures.value ∙ all_written _ c.pack-2.new.words _ (search rules) in
     let width : k ≡ length c.args.msg.now = search rules in
     let len : length columns ≡ length c.args.old.now = search rules in
-    let old : cells_of (length columns) c.deref-3.result.now ≡ c.args.old.now =
-    ap (λ n. cells_of n c.deref-3.result.now) len ∙ ap (cells_of (length c.args.old.now)) same ∙ c.pack.ensures.cells in
-    let message : cells_of k c.deref-4.result.now ≡ c.args.msg.now =
-    ap (λ n. cells_of n c.deref-4.result.now) width ∙ ap (cells_of (length c.args.msg.now)) same_message ∙ c.pack-2.ensures.cells in
-    let same_out : c.deref-5.result.now ≡ c.go-carry.new.out = c.deref-5.ensures.value ∙ all_written _ c.go-carry.new.out _ (search rules) in
+    let old : cells_of (length columns) c.deref.result.now ≡ c.args.old.now =
+    ap (λ n. cells_of n c.deref.result.now) len ∙ ap (cells_of (length c.args.old.now)) same ∙ c.pack.ensures.cells in
+    let message : cells_of k c.deref-2.result.now ≡ c.args.msg.now =
+    ap (λ n. cells_of n c.deref-2.result.now) width ∙ ap (cells_of (length c.args.msg.now)) same_message ∙ c.pack-2.ensures.cells in
+    let same_out : c.deref-3.result.now ≡ c.go-carry.new.out = c.deref-3.ensures.value ∙ all_written _ c.go-carry.new.out _ (search rules) in
     let out_len : length columns ≡ length c.args.out.now = search rules in
     let new : cells_of (length columns) c.go-carry.new.out ≡ c.unpack.new.cells =
     ap (λ n. cells_of n c.go-carry.new.out) out_len ∙ sym (c.unpack.ensures ∙ ap (cells_of (length c.args.out.now)) same_out) in
@@ -37,13 +37,13 @@ returns-clause-carried g c = λ is.
 pub returns-clause-given : goal.returns-clause-given
 returns-clause-given g c = λ is.
     let k : ℕ = g.row.K in
-    let columns : List ℕ = c.deref.result.now in
-    let went : WentOver Carried k (length columns) columns c.deref-3.result.now c.deref-4.result.now c.deref_mut-4.result.now c.go-carry.new.out = search rules in
-    let same : c.deref-3.result.now ≡ c.pack.new.words = c.deref-3.ensures.value ∙ all_written _ c.pack.new.words _ (search rules) in
+    let columns : List ℕ = c.self.inside.system.columns.items in
+    let went : WentOver Carried k (length columns) columns c.deref.result.now c.deref-2.result.now c.deref_mut-3.result.now c.go-carry.new.out = search rules in
+    let same : c.deref.result.now ≡ c.pack.new.words = c.deref.ensures.value ∙ all_written _ c.pack.new.words _ (search rules) in
     let len : length columns ≡ length c.args.old.now = search rules in
-    let old : cells_of (length columns) c.deref-3.result.now ≡ c.args.old.now =
-    ap (λ n. cells_of n c.deref-3.result.now) len ∙ ap (cells_of (length c.args.old.now)) same ∙ c.pack.ensures.cells in
-    let same_out : c.deref-5.result.now ≡ c.go-carry.new.out = c.deref-5.ensures.value ∙ all_written _ c.go-carry.new.out _ (search rules) in
+    let old : cells_of (length columns) c.deref.result.now ≡ c.args.old.now =
+    ap (λ n. cells_of n c.deref.result.now) len ∙ ap (cells_of (length c.args.old.now)) same ∙ c.pack.ensures.cells in
+    let same_out : c.deref-3.result.now ≡ c.go-carry.new.out = c.deref-3.ensures.value ∙ all_written _ c.go-carry.new.out _ (search rules) in
     let out_len : length columns ≡ length c.args.out.now = search rules in
     let new : cells_of (length columns) c.go-carry.new.out ≡ c.unpack.new.cells =
     ap (λ n. cells_of n c.go-carry.new.out) out_len ∙ sym (c.unpack.ensures ∙ ap (cells_of (length c.args.out.now)) same_out) in

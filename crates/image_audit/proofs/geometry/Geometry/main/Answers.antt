@@ -1,7 +1,7 @@
 -- These bytes are a part of the page.
 use Rattle.std.proofs.Common.{◌≡◌, ℕ, ◌+◌, ◌*◌, ◌<◌, sym, subst, ap, arith, length-take, length-drop}
 use Rattle.std.specs.Prelude.{slice_range}
-use Rattle.page_codec.specs.Geometry.{Geometry, page_count, main_at, spare_at}
+use Rattle.page_codec.specs.Geometry.{Geometry, page_count, main_at}
 use Rattle.image_audit.specs.declared.geometry.Geometry.TheInside.{Inside}
 use Rattle.image_audit.specs.Images.{HasLength, pages_in, whole_bytes}
 use Rattle.image_audit.proofs.Pages.{main_range, page_room}

@@ -1,6 +1,5 @@
 -- The limits of a head are those of its numbers.
-use Rattle.std.proofs.Common.{◌≡◌, ℕ, sym, subst}
-use Rattle.page_codec.specs.Geometry.{Geometry}
+use Rattle.std.proofs.Common.{◌≡◌, sym, subst}
 use Rattle.image_audit.specs.Images.{geometry_of, IsFitting}
 use Rattle.image_audit.proofs.Limits.{fitting}
 use Rattle.image_audit.proofs.geometry.Geometry.of.Goals as goal
