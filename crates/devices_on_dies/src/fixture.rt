@@ -59,41 +59,60 @@ pub fn open(book: &mut Book, block: u32)
     book.set_state(block, State::Active { fill: 0 });
 }
 
+/// A die and a scheme, with what is kept of them: a device without its rules.
+#[derive(Drop)]
+pub struct Small<D, C> {
+    pub die: D,
+    pub scheme: C,
+    pub work: Work,
+    pub map: SectorMap,
+    pub book: Book,
+    pub seq: u64,
+}
+
 /// Puts a sector on the next page of the Active block, whose fill is given.
 pub fn write<D: Die, C: Scheme>(
-    die: &mut D,
-    scheme: &mut C,
-    work: &mut Work,
-    map: &mut SectorMap,
-    book: &mut Book,
-    seq: &mut u64,
+    small: &mut Small<D, C>,
     block: u32,
     fill: u32,
     sector: u32,
     bytes: &[u8],
 ) -> Result<(), DieFault>
-    requires die { Serves work.old (D.state die.old).shape }
-    requires scheme { ServesScheme work.old (C.meaning scheme.old) }
-    requires tables { IsTrue (geometry_of (D.state die.old).shape (C.meaning scheme.old) (length map.old)) (D.state die.old).cells book.old map.old seq.old }
-    requires fresh { seq.old < 2 ^ 62 }
-    requires active { state_at book.old block ≡ State.Active fill }
-    requires sector { sector < length map.old }
-    requires bytes { length bytes.now ≡ (C.meaning scheme.old).sector_bytes }
-    ensures tables { OnOk result (IsTrue (geometry_of (D.state die.new).shape (C.meaning scheme.new) (length map.new)) (D.state die.new).cells book.new map.new seq.new) }
-    ensures same_shape { (D.state die.new).shape ≡ (D.state die.old).shape }
-    ensures same_sectors { length map.new ≡ length map.old }
-    ensures next { seq.new ≡ seq.old + 1 }
-    ensures same_scheme { C.meaning scheme.new ≡ C.meaning scheme.old }
-    ensures same_work { work.new ≡ work.old }
+    requires die { Serves small.old.work (D.state small.old.die).shape }
+    requires scheme { ServesScheme small.old.work (C.meaning small.old.scheme) }
+    requires tables { IsTrue (geometry_of (D.state small.old.die).shape (C.meaning small.old.scheme) (length small.old.map)) (D.state small.old.die).cells small.old.book small.old.map small.old.seq }
+    requires fresh { small.old.seq < 2 ^ 62 }
+    requires active { state_at small.old.book block ≡ State.Active fill }
+    requires sector { sector < length small.old.map }
+    requires bytes { length bytes.now ≡ (C.meaning small.old.scheme).sector_bytes }
+    ensures tables { OnOk result (IsTrue (geometry_of (D.state small.new.die).shape (C.meaning small.new.scheme) (length small.new.map)) (D.state small.new.die).cells
+        small.new.book small.new.map small.new.seq) }
+    ensures same_shape { (D.state small.new.die).shape ≡ (D.state small.old.die).shape }
+    ensures same_sectors { length small.new.map ≡ length small.old.map }
+    ensures next { small.new.seq ≡ small.old.seq + 1 }
+    ensures same_scheme { C.meaning small.new.scheme ≡ C.meaning small.old.scheme }
+    ensures same_work { small.new.work ≡ small.old.work }
 {
-    let page = block * book.pages() + fill;
+    let page = block * small.book.pages() + fill;
     let header = Header {
         sector,
-        seq: *seq,
+        seq: small.seq,
         kind: 1,
     };
-    *seq += 1;
-    put_first(die, scheme, work, page, &header, bytes)?;
-    record_effect(map, book, sector, Entry::Held(Place2 { page, slot: 0 }));
+    small.seq += 1;
+    put_first(
+        &mut small.die,
+        &mut small.scheme,
+        &mut small.work,
+        page,
+        &header,
+        bytes,
+    )?;
+    record_effect(
+        &mut small.map,
+        &mut small.book,
+        sector,
+        Entry::Held(Place2 { page, slot: 0 }),
+    );
     Ok(())
 }

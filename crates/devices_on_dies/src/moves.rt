@@ -8,7 +8,7 @@ ghost use Rattle.block_state.specs.Book.{state_at};
 ghost use Rattle.page_codec.specs.Geometry.{Geometry};
 ghost use Rattle.page_codec.specs.TrueBook.{IsTrue};
 
-use crate::fixture::{new_book, new_die, open, write};
+use crate::fixture::{Small, new_book, new_die, open, write};
 use block_state::{Book, State};
 use cell_die::{PowerDie, Torn};
 use collector::move_one;
@@ -92,67 +92,36 @@ fn page_of(rt: &impl Abort, map: &SectorMap, sector: u32) -> u32 {
 
 /// A move of the record of sector 1.
 fn after_move(rt: &impl Abort, alloc: Global, armed: Armed) -> Result<After, Fail> {
-    let mut scheme = Striped::new(alloc, RivestShamir::new(), RivestShamir::new(), 16)?;
-    let mut work = Work::new(alloc, 24, 1, 16, 2)?;
-    let mut die = new_die(alloc)?;
-    let mut map = SectorMap::new(alloc, 2)?;
-    let mut book = new_book(alloc)?;
-    let mut seq = 1;
-    let fill = fill_of(rt, &book, 0);
-    write(
-        &mut die,
-        &mut scheme,
-        &mut work,
-        &mut map,
-        &mut book,
-        &mut seq,
-        0,
-        fill,
-        0,
-        &[0x11; 16],
-    )?;
-    let fill = fill_of(rt, &book, 0);
-    write(
-        &mut die,
-        &mut scheme,
-        &mut work,
-        &mut map,
-        &mut book,
-        &mut seq,
-        0,
-        fill,
-        1,
-        &[0xa5; 16],
-    )?;
-    open_next(rt, &mut book);
-    let fill = fill_of(rt, &book, 1);
-    write(
-        &mut die,
-        &mut scheme,
-        &mut work,
-        &mut map,
-        &mut book,
-        &mut seq,
-        1,
-        fill,
-        0,
-        &[0x5a; 16],
-    )?;
-    arm(rt, &mut die, armed);
+    let mut small = Small {
+        scheme: Striped::new(alloc, RivestShamir::new(), RivestShamir::new(), 16)?,
+        work: Work::new(alloc, 24, 1, 16, 2)?,
+        die: new_die(alloc)?,
+        map: SectorMap::new(alloc, 2)?,
+        book: new_book(alloc)?,
+        seq: 1,
+    };
+    let fill = fill_of(rt, &small.book, 0);
+    write(&mut small, 0, fill, 0, &[0x11; 16])?;
+    let fill = fill_of(rt, &small.book, 0);
+    write(&mut small, 0, fill, 1, &[0xa5; 16])?;
+    open_next(rt, &mut small.book);
+    let fill = fill_of(rt, &small.book, 1);
+    write(&mut small, 1, fill, 0, &[0x5a; 16])?;
+    arm(rt, &mut small.die, armed);
     let answer = move_one(
-        &mut die,
-        &mut scheme,
-        &mut work,
-        &mut map,
-        &mut book,
-        &mut seq,
+        &mut small.die,
+        &mut small.scheme,
+        &mut small.work,
+        &mut small.map,
+        &mut small.book,
+        &mut small.seq,
     );
-    assert!(rt; book.blocks() == 3);
+    assert!(rt; small.book.blocks() == 3);
     Ok(After {
         answer,
-        page: page_of(rt, &map, 1),
-        lives: (book.live(0), book.live(1)),
-        seq,
+        page: page_of(rt, &small.map, 1),
+        lives: (small.book.live(0), small.book.live(1)),
+        seq: small.seq,
     })
 }
 

@@ -34,7 +34,8 @@ left_more {x} {y} {z} {old} {between} {new} first second = record {
 }
 
 -- one take
-pub left_take : {E : Type 0} (result : Result ℕ E) (into : List ℕ) (x y : Option (List ℕ)) (old new : List Event) → Adds (took result into) old new → ReadConsumes x y result into → TellsLeft x y old new
+pub left_take : {E : Type 0} (result : Result ℕ E) (into : List ℕ) (x y : Option (List ℕ)) (old new : List Event) → Adds (took result into) old new → ReadConsumes x y result into
+    → TellsLeft x y old new
 left_take (Ok n) into x y old new adds reads = record { events = moved (take n into) ∷ []; came = adds; left = subst (λ (bytes : List ℕ). Consumes x y bytes) (sym (append-nil (take n into))) reads.0 }
 left_take (Err e) into x y old new adds keeps = record { events = failed ∷ []; came = adds; left = consumes_none x y keeps }
 

@@ -46,7 +46,8 @@ loop-room-preserved g c =
     let in_front : c.in-Ok.count ≤ length c.take.new.into = c.in-Ok.ensures.bound.0 in
     record {
       fed = fed_more _ _ _ c.args.reader.now c.loop-room.reader c.feed.new.self piece c.loop-room.invariant.fed c.in-Ok.ensures.log fits (rw take-append-le at c.in-Ok-feed.ensures.fed.1);
-      left = left_more c.loop-room.invariant.left (left_take c.take.result c.take.new.into (left c.loop-room.image) (left c.take.new.self) (log c.loop-room.image) (log c.take.new.self) c.take.ensures.log c.take.ensures.bytes);
+      left = left_more c.loop-room.invariant.left
+          (left_take c.take.result c.take.new.into (left c.loop-room.image) (left c.take.new.self) (log c.loop-room.image) (log c.take.new.self) c.take.ensures.log c.take.ensures.bytes);
       room = c.next_count-room-in-Ok-feed.ensures;
     }
 
@@ -63,16 +64,19 @@ pub returns-in-Ok-eq0-clause-left : goal.returns-in-Ok-eq0-clause-left
 returns-in-Ok-eq0-clause-left g c =
     let left = g.I.Source.left in
     let log = g.I.Source.log in
-    left_more c.loop-room.invariant.left (left_take c.take.result c.take.new.into (left c.loop-room.image) (left c.take.new.self) (log c.loop-room.image) (log c.take.new.self) c.take.ensures.log c.take.ensures.bytes)
+    left_more c.loop-room.invariant.left
+    (left_take c.take.result c.take.new.into (left c.loop-room.image) (left c.take.new.self) (log c.loop-room.image) (log c.take.new.self) c.take.ensures.log c.take.ensures.bytes)
 
 pub returns-in-Err-feed-clause-left : goal.returns-in-Err-feed-clause-left
 returns-in-Err-feed-clause-left g c =
     let left = g.I.Source.left in
     let log = g.I.Source.log in
-    left_more c.loop-room.invariant.left (left_take c.take.result c.take.new.into (left c.loop-room.image) (left c.take.new.self) (log c.loop-room.image) (log c.take.new.self) c.take.ensures.log c.take.ensures.bytes)
+    left_more c.loop-room.invariant.left
+    (left_take c.take.result c.take.new.into (left c.loop-room.image) (left c.take.new.self) (log c.loop-room.image) (log c.take.new.self) c.take.ensures.log c.take.ensures.bytes)
 
 pub returns-in-Err-clause-left : goal.returns-in-Err-clause-left
 returns-in-Err-clause-left g c =
     let left = g.I.Source.left in
     let log = g.I.Source.log in
-    left_more c.loop-room.invariant.left (left_take c.take.result c.take.new.into (left c.loop-room.image) (left c.take.new.self) (log c.loop-room.image) (log c.take.new.self) c.take.ensures.log c.take.ensures.bytes)
+    left_more c.loop-room.invariant.left
+    (left_take c.take.result c.take.new.into (left c.loop-room.image) (left c.take.new.self) (log c.loop-room.image) (log c.take.new.self) c.take.ensures.log c.take.ensures.bytes)

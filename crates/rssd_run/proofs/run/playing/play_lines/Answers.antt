@@ -14,7 +14,11 @@ use Rattle.rssd_run.proofs.run.playing.play_lines.Goals as goal
 
 pub loop-line-init : goal.loop-line-init
 loop-line-init g c =
-    record { numbers = refl; held = held_same (g.O.Sink.written c.args.out.now) (g.O.Sink.log c.args.out.now); plays = λ base before stands. (before, stands, play_of_none (LeavesDie g.D.Die.state) (g.F.Device.device c.args.ftl.now).numbers before (g.O.Sink.log c.args.out.now)) }
+    record {
+      numbers = refl;
+      held = held_same (g.O.Sink.written c.args.out.now) (g.O.Sink.log c.args.out.now);
+      plays = λ base before stands. (before, stands, play_of_none (LeavesDie g.D.Die.state) (g.F.Device.device c.args.ftl.now).numbers before (g.O.Sink.log c.args.out.now));
+    }
 
 pub loop-line-preserved : goal.loop-line-preserved
 loop-line-preserved g c =

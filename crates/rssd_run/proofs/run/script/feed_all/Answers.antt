@@ -18,7 +18,8 @@ loop-room-preserved g c =
       so = read_more c.in-Ok.count c.take.new.into c.loop-room.invariant.so c.in-Ok.ensures.log c.in-Ok.ensures.bound.0
           (omega (arith, c.in-Ok.ensures.bound.0, c.take.auto.into, length-take c.min-most.result c.loop-room.piece, c.min-most.ensures))
           (fed c.feed.result c.loop-room.reader c.feed.new.self c.in-Ok.count c.take.new.into _ c.feed.ensures.reads c.if-is_err.ensures.value c.in-Ok.ensures.bound.0);
-      left = left_more c.loop-room.invariant.left (left_take c.take.result c.take.new.into (left c.loop-room.script) (left c.take.new.self) (log c.loop-room.script) (log c.take.new.self) c.take.ensures.log c.take.ensures.bytes);
+      left = left_more c.loop-room.invariant.left
+          (left_take c.take.result c.take.new.into (left c.loop-room.script) (left c.take.new.self) (log c.loop-room.script) (log c.take.new.self) c.take.ensures.log c.take.ensures.bytes);
     }
 
 pub returns-in-Err-clause-refused : goal.returns-in-Err-clause-refused
@@ -28,16 +29,19 @@ pub returns-in-Ok-eq0-clause-left : goal.returns-in-Ok-eq0-clause-left
 returns-in-Ok-eq0-clause-left g c =
     let left = g.T.Source.left in
     let log = g.T.Source.log in
-    left_more c.loop-room.invariant.left (left_take c.take.result c.take.new.into (left c.loop-room.script) (left c.take.new.self) (log c.loop-room.script) (log c.take.new.self) c.take.ensures.log c.take.ensures.bytes)
+    left_more c.loop-room.invariant.left
+    (left_take c.take.result c.take.new.into (left c.loop-room.script) (left c.take.new.self) (log c.loop-room.script) (log c.take.new.self) c.take.ensures.log c.take.ensures.bytes)
 
 pub returns-then-is_err-clause-left : goal.returns-then-is_err-clause-left
 returns-then-is_err-clause-left g c =
     let left = g.T.Source.left in
     let log = g.T.Source.log in
-    left_more c.loop-room.invariant.left (left_take c.take.result c.take.new.into (left c.loop-room.script) (left c.take.new.self) (log c.loop-room.script) (log c.take.new.self) c.take.ensures.log c.take.ensures.bytes)
+    left_more c.loop-room.invariant.left
+    (left_take c.take.result c.take.new.into (left c.loop-room.script) (left c.take.new.self) (log c.loop-room.script) (log c.take.new.self) c.take.ensures.log c.take.ensures.bytes)
 
 pub returns-in-Err-clause-left : goal.returns-in-Err-clause-left
 returns-in-Err-clause-left g c =
     let left = g.T.Source.left in
     let log = g.T.Source.log in
-    left_more c.loop-room.invariant.left (left_take c.take.result c.take.new.into (left c.loop-room.script) (left c.take.new.self) (log c.loop-room.script) (log c.take.new.self) c.take.ensures.log c.take.ensures.bytes)
+    left_more c.loop-room.invariant.left
+    (left_take c.take.result c.take.new.into (left c.loop-room.script) (left c.take.new.self) (log c.loop-room.script) (log c.take.new.self) c.take.ensures.log c.take.ensures.bytes)
